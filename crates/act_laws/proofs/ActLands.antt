@@ -26,7 +26,7 @@ use Rattle.link_bench.specs.declared.turns.TurnEnd.{TurnEnd}
 use Rattle.link_bench.specs.Acts.{Acted, call_act, caller_act, free_act, link_act, made_call, misfit, own_in, pump_act, pump_refusal, step_act, unless_own, unless_refused, walk_act, wish_of}
 use Rattle.link_bench.specs.BenchCrashes.{reclaim_leaves_at}
 use Rattle.link_bench.specs.Benches.{BenchState, BenchWalk, IsSendable, advance_fault, advance_steps, advance_walk, begin_fault, begin_walk, begun_call_of, bench_walk, call_steps, is_in_call, later_steps, link_in, on_rings, ready_fault, step_fault, wish_fault, with_begun}
-use Rattle.link_bench.specs.Turns.{Pumped, TurnCall, Turns, is_whole, one_turn, pump_turns, take_turn, tested_call, then_more, turn_call, turn_message}
+use Rattle.link_bench.specs.Turns.{Pumped, TurnCall, Turns, is_whole, one_turn, pump_turns, take_turn, call_unless, then_more, turn_call, turn_message}
 use Rattle.link_bench.specs.Watchers.{Seeing}
 use Rattle.link_bench.proofs.Begun.{begin_may}
 use Rattle.act_laws.specs.Deeds.{Deeds, act_deeds, advance_deeds, behind, call_moves, caller_deeds, deeds_then, free_deeds, later_moves, made_deeds, no_deeds, one_deeds, pump_deeds, reclaim_deeds, take_deeds, turn_deeds, unless_told, walk_deeds, whole_deeds}
@@ -73,7 +73,7 @@ advance_lands bench more steps caller None may =
 -- ---- turns
 
 tested_lands : (bench : BenchState) (steps caller : ℕ) (wanted : Wish) (why : Option BenchFault) → begin_fault bench caller wanted ≡ why → IsSendable wanted
-    → LandsAt bench (unless_told why (whole_deeds bench steps caller wanted)) (tested_call bench steps caller wanted why).bench
+    → LandsAt bench (unless_told why (whole_deeds bench steps caller wanted)) (call_unless bench steps caller wanted why).bench
 tested_lands bench steps caller wanted (Some why) found sendable = stays bench
 tested_lands bench steps caller wanted None ready sendable = begin_lands bench 6 steps caller wanted (begin_may bench caller wanted sendable ready)
 
@@ -135,10 +135,10 @@ module _ {W : Type 0} (sees : Seeing W) where
 
 -- ---- what a refusal that there isn't says
 
-neither : (ready later : Option BenchFault) → ready ≡ None → later ≡ None → option_or ready later ≡ None
+pub neither : (ready later : Option BenchFault) → ready ≡ None → later ≡ None → option_or ready later ≡ None
 neither ready later none_ready none_later = ap (λ (f : Option BenchFault). option_or f later) none_ready ∙ none_later
 
-in_call_at : (found : Option End) (in_call : Bool) → advance_fault found in_call ≡ None → in_call ≡ true
+pub in_call_at : (found : Option End) (in_call : Bool) → advance_fault found in_call ≡ None → in_call ≡ true
 in_call_at None in_call none = absurd (true≢false (ap is_some none))
 in_call_at (Some end) true none = refl
 in_call_at (Some end) false none = absurd (true≢false (ap is_some none))
@@ -147,7 +147,7 @@ holds : {X : Type 0} (test : Bool) (why : X) → cond test None (Some why) ≡ N
 holds true why none = refl
 holds false why none = absurd (true≢false (ap is_some none))
 
-fits : (bench : BenchState) (caller : ℕ) (wanted : CallWish (List ℕ)) → misfit bench caller wanted ≡ None → wish_fault bench caller (wish_of wanted) ≡ None
+pub fits : (bench : BenchState) (caller : ℕ) (wanted : CallWish (List ℕ)) → misfit bench caller wanted ≡ None → wish_fault bench caller (wish_of wanted) ≡ None
 fits bench caller (call.Send source destination payload) none = refl
 fits bench caller (call.Raw message) none = refl
 fits bench caller call.Take none = refl

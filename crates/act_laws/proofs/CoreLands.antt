@@ -154,7 +154,7 @@ report_lands may_step core = report_at may_step (life_after_crash core.life).lif
 
 -- ---- steps of the actors
 
-no_fault : (found : Option BenchFault) → is_some found ≡ false → found ≡ None
+pub no_fault : (found : Option BenchFault) → is_some found ≡ false → found ≡ None
 no_fault None none = refl
 no_fault (Some why) none = absurd (true≢false none)
 

@@ -1,6 +1,9 @@
 pub mod Lands
 pub mod ActLands
 pub mod ReachedActs
+pub mod ActMoves
 pub mod CoreLands
 pub mod Tales
 pub mod DoneDeeds
+pub mod Closes
+pub mod CalmDeeds

@@ -1,14 +1,14 @@
 -- What each command keeps of the account of a link.
-use Rattle.std.proofs.Common.{◌≡◌, ◌+◌, Bool, true, false, cond, List, [], ◌∷◌, ◌++◌, length, refl, sym, ap, subst, ◌∙◌, arith}
+use Rattle.std.proofs.Common.{◌≡◌, ℕ, ◌+◌, Bool, true, false, cond, List, [], ◌∷◌, ◌++◌, length, refl, sym, ap, subst, ◌∙◌, arith}
 use Rattle.std.proofs.lemmas.Bool.{true≢false}
 use Rattle.std.proofs.lemmas.List.{append_assoc, append-nil, length-append}
 use Rattle.rp_base.specs.declared.kinds.End.{End}
 use Rattle.lane_model.specs.Links.{LinkState}
 use Rattle.lane_laws.specs.Handings.{Handing, IsPrefix, messages_of, with_numbers, handed_front, due, got}
-use Rattle.lane_laws.specs.Moves.{Move, MayMoves, handings_to, lane_to, link_after_move}
+use Rattle.lane_laws.specs.Moves.{Close, Move, MayMoves, handings_to, lane_to, link_after_move}
 use Rattle.lane_laws.specs.SoundRingLinks.{HasSoundRings}
 use Rattle.lane_laws.specs.Takes.{IsTold, moves_takes, way_takes}
-use Rattle.lane_laws.specs.Ways.{IsOpened, IsWay, Way, history, link_after_moves, link_of_way, way_on}
+use Rattle.lane_laws.specs.Ways.{AreWholeMoves, IsOpened, IsWay, Way, history, link_after_moves, link_of_way, way_on}
 use Rattle.lane_laws.proofs.LinkRuns.{move_shut}
 use Rattle.lane_laws.proofs.RingMoves.{moves_kept}
 use Rattle.lane_laws.proofs.Told.{way_told}
@@ -16,19 +16,23 @@ use Rattle.lane_laws.proofs.WayFacts.{shut_begins, shut_hands_none, shut_most, t
 use Rattle.channel_bus.specs.Laws.{side_laws}
 use Rattle.channel_bus.specs.Sides.{EndState, side_meaning}
 use Rattle.link_bench.specs.Benches.{BenchState, LinkRings, link_in}
-use Rattle.act_laws.specs.Accounts.{Account, IsAccount, IsLate, new_account, with_deeds}
+use Rattle.act_laws.specs.Accounts.{Account, IsAccount, IsLate, new_account, way_to_close, with_deeds}
 use Rattle.act_laws.specs.Deeds.{Deeds}
 use Rattle.act_laws.proofs.ActLands.{LandsAt}
+use Rattle.act_laws.proofs.CalmDeeds.{IsCalm, Open, Silent}
+use Rattle.act_laws.proofs.Closes.{ClosedAmong, closed_among, may_front, none_front, stays_live, whole_front}
 use Rattle.act_laws.proofs.Lands.{lands_lists, link_both, may_both, takes_both, whole_both}
 
--- a closed link, by the way up to when it was closed
+-- a closed link, by the way up to its close
 record ClosedSince (end : End) (account : Account) : Type 0 where
-  pub until : Way EndState
+  pub before : Way EndState
+  pub inc : ℕ
   pub since : List Move
-  pub is_way : IsWay side_meaning until
-  pub parts : account.way ≡ way_on until since
-  pub closed : (link_of_way side_meaning until).era.is_live ≡ false
-  pub told : account.told ≡ way_takes side_meaning until end ++ account.late
+  pub is_way : IsWay side_meaning (way_to_close before inc)
+  pub live : (link_of_way side_meaning before).era.is_live ≡ true
+  pub closed : (link_of_way side_meaning (way_to_close before inc)).era.is_live ≡ false
+  pub parts : account.way ≡ way_on (way_to_close before inc) since
+  pub told : account.told ≡ way_takes side_meaning (way_to_close before inc) end ++ account.late
 
 -- the account of the link of a bench
 pub record IsTale (end : End) (bench : BenchState) (account : Account) : Type 0 where
@@ -55,7 +59,7 @@ stays_shut : (link : LinkState EndState) (moves : List Move) → link.era.is_liv
 stays_shut link [] shut = shut
 stays_shut link (move ∷ moves) shut = stays_shut (link_after_move side_meaning link move) moves (move_shut side_meaning link move shut).shut
 
-module _ (end : End) (bench : BenchState) (account : Account) (tale : IsTale end bench account) (deeds : Deeds) (left : BenchState) (lands : LandsAt bench deeds left) where
+module _ (end : End) (bench : BenchState) (account : Account) (tale : IsTale end bench account) (deeds : Deeds) (calm : IsCalm end deeds) (left : BenchState) (lands : LandsAt bench deeds left) where
   abbrev on : Account
   on = with_deeds end (link_in bench).era.is_live account deeds
 
@@ -84,27 +88,91 @@ module _ (end : End) (bench : BenchState) (account : Account) (tale : IsTale end
       ∙ ap (λ (l : List Handing). way_takes side_meaning account.way end ++ l) (sym takes_on)
       ∙ sym (takes_both account.way.start account.way.moves deeds.moves end)
 
-  -- where the link was live, what was told once it was closed is nothing yet
-  live_late : (now : Account) → now.way ≡ on.way → now.told ≡ on.told → now.late ≡ [] → (link_in left).era.is_live ≡ false → ClosedSince end now
-  live_late now same told none shut = record {
-    until = on.way;
-    since = [];
-    is_way = way_kept;
-    parts = same ∙ ap (λ (moves : List Move). record { start = account.way.start; moves = moves }) (sym (append-nil (account.way.moves ++ deeds.moves)));
-    closed = ap (λ (l : LinkState EndState). l.era.is_live) leads_on ∙ shut;
-    told = told ∙ told_on ∙ sym (append-nil (way_takes side_meaning on.way end)) ∙ ap (λ (l : List Handing). way_takes side_meaning on.way end ++ l) (sym none);
-  }
+  -- ---- the deeds close the link, and tell nothing
+
+  module _ (is : ClosedAmong (link_of_way side_meaning account.way) deeds.moves) (none : deeds.takes end ≡ []) where
+    abbrev closing : List Move
+    closing = is.front ++ Close is.inc ∷ []
+
+    abbrev until : Way EndState
+    until = way_to_close (way_on account.way is.front) is.inc
+
+    same_moves : account.way.moves ++ deeds.moves ≡ until.moves ++ is.since
+    same_moves =
+        ap (λ (l : List Move). account.way.moves ++ l) is.parts
+        ∙ sym (append_assoc account.way.moves is.front (Close is.inc ∷ is.since))
+        ∙ sym (append_assoc (account.way.moves ++ is.front) (Close is.inc ∷ []) is.since)
+
+    parts_on : on.way ≡ way_on until is.since
+    parts_on = ap (λ (moves : List Move). record { start = account.way.start; moves = moves }) same_moves
+
+    until_is : IsWay side_meaning until
+    until_is = record {
+      opened = tale.way.opened;
+      whole = whole_front until.moves is.since (subst AreWholeMoves same_moves way_kept.whole);
+      may = may_front account.way.start until.moves is.since (subst (MayMoves side_meaning account.way.start) same_moves way_kept.may);
+    }
+
+    none_closing : moves_takes side_meaning (link_of_way side_meaning account.way) closing end ≡ []
+    none_closing =
+        none_front _ _
+        (sym (takes_both (link_of_way side_meaning account.way) closing is.since end)
+        ∙ ap (λ (moves : List Move). moves_takes side_meaning (link_of_way side_meaning account.way) moves end) (append_assoc is.front (Close is.inc ∷ []) is.since ∙ sym is.parts)
+        ∙ takes_on ∙ none)
+
+    until_takes : way_takes side_meaning until end ≡ way_takes side_meaning account.way end
+    until_takes =
+        ap (λ (moves : List Move). moves_takes side_meaning account.way.start moves end) (append_assoc account.way.moves is.front (Close is.inc ∷ []))
+        ∙ takes_both account.way.start account.way.moves closing end
+        ∙ ap (λ (l : List Handing). way_takes side_meaning account.way end ++ l) none_closing
+        ∙ append-nil (way_takes side_meaning account.way end)
+
+    led : (moves : List Move) → link_of_way side_meaning (way_on account.way moves) ≡ link_after_moves side_meaning (link_of_way side_meaning account.way) moves
+    led moves = link_both account.way.start account.way.moves moves
+
+    closes_now : (now : Account) → now.way ≡ on.way → now.told ≡ on.told → now.late ≡ [] → ClosedSince end now
+    closes_now now same told late = record {
+      before = way_on account.way is.front;
+      inc = is.inc;
+      since = is.since;
+      is_way = until_is;
+      live = ap (λ (l : LinkState EndState). l.era.is_live) (led is.front) ∙ is.live;
+      closed =
+          ap (λ (l : LinkState EndState). l.era.is_live)
+          (link_both account.way.start (account.way.moves ++ is.front) (Close is.inc ∷ []) ∙ ap (λ (l : LinkState EndState). link_after_move side_meaning l (Close is.inc)) (led is.front))
+          ∙ is.closed;
+      parts = same ∙ parts_on;
+      told =
+          told ∙ ap (λ (l : List Handing). account.told ++ l) none ∙ append-nil account.told ∙ tale.told ∙ sym until_takes
+          ∙ sym (append-nil (way_takes side_meaning until end)) ∙ ap (λ (l : List Handing). way_takes side_meaning until end ++ l) (sym late);
+    }
+
+  -- where the link was live, the deeds closed it, and nothing was told since
+  live_late : (now : Account) → now.way ≡ on.way → now.told ≡ on.told → now.late ≡ [] → (link_in bench).era.is_live ≡ true → (link_in left).era.is_live ≡ false → ClosedSince end now
+  live_late now same told late live shut = by calm
+    where
+      was : (link_of_way side_meaning account.way).era.is_live ≡ true
+      was = ap (λ (l : LinkState EndState). l.era.is_live) tale.leads ∙ live
+
+      gone : (link_after_moves side_meaning (link_of_way side_meaning account.way) deeds.moves).era.is_live ≡ false
+      gone = ap (λ (l : LinkState EndState). l.era.is_live) (ap (λ (l : LinkState EndState). link_after_moves side_meaning l deeds.moves) tale.leads ∙ lists) ∙ shut
+
+      by : IsCalm end deeds → ClosedSince end now
+      by (Open closes_none) = absurd (true≢false (sym (stays_live (link_of_way side_meaning account.way) deeds.moves lands.whole closes_none was) ∙ gone))
+      by (Silent none) = closes_now (closed_among (link_of_way side_meaning account.way) deeds.moves lands.whole was gone) none now same told late
 
   shut_late : (now : Account) → now.way ≡ on.way → now.told ≡ on.told → now.late ≡ account.late ++ deeds.takes end → ClosedSince end account → ClosedSince end now
   shut_late now same told late was = record {
-    until = was.until;
+    before = was.before;
+    inc = was.inc;
     since = was.since ++ deeds.moves;
     is_way = was.is_way;
-    parts = same ∙ ap (λ (way : Way EndState). way_on way deeds.moves) was.parts
-        ∙ ap (λ (moves : List Move). record { start = was.until.start; moves = moves }) (append_assoc was.until.moves was.since deeds.moves);
+    live = was.live;
     closed = was.closed;
-    told = told ∙ ap (λ (l : List Handing). l ++ deeds.takes end) was.told ∙ append_assoc (way_takes side_meaning was.until end) account.late (deeds.takes end)
-        ∙ ap (λ (l : List Handing). way_takes side_meaning was.until end ++ l) (sym late);
+    parts = same ∙ ap (λ (way : Way EndState). way_on way deeds.moves) was.parts
+        ∙ ap (λ (moves : List Move). record { start = was.before.start; moves = moves }) (append_assoc (way_to_close was.before was.inc).moves was.since deeds.moves);
+    told = told ∙ ap (λ (l : List Handing). l ++ deeds.takes end) was.told ∙ append_assoc (way_takes side_meaning (way_to_close was.before was.inc) end) account.late (deeds.takes end)
+        ∙ ap (λ (l : List Handing). way_takes side_meaning (way_to_close was.before was.inc) end ++ l) (sym late);
   }
 
   shut_left : (link_in bench).era.is_live ≡ false → (link_in left).era.is_live ≡ false
@@ -115,7 +183,7 @@ module _ (end : End) (bench : BenchState) (account : Account) (tale : IsTale end
   none_late_on false is live = absurd (true≢false (sym live ∙ shut_left is))
 
   late_on : (was : Bool) → (link_in bench).era.is_live ≡ was → (link_in left).era.is_live ≡ false → ClosedSince end (with_deeds end was account deeds)
-  late_on true is shut = live_late (with_deeds end true account deeds) refl refl refl shut
+  late_on true is shut = live_late (with_deeds end true account deeds) refl refl refl is shut
   late_on false is shut = shut_late (with_deeds end false account deeds) refl refl refl (tale.late is)
 
   pub deeds_kept : IsTale end left on
@@ -138,28 +206,31 @@ pub rings_kept : (bench : BenchState) (deeds : Deeds) (left : BenchState) → La
 rings_kept bench deeds left lands sound =
     subst (λ (r : LinkRings). HasSoundRings r) lands.leads (moves_kept side_meaning bench.rings deeds.moves lands.whole sound lands.may)
 
-pub sound_kept : (end : End) (bench : BenchState) (account : Account) → IsSoundTale end bench account → (deeds : Deeds) (left : BenchState) → LandsAt bench deeds left
+pub sound_kept : (end : End) (bench : BenchState) (account : Account) → IsSoundTale end bench account → (deeds : Deeds) → IsCalm end deeds → (left : BenchState) → LandsAt bench deeds left
     → IsSoundTale end left (with_deeds end (link_in bench).era.is_live account deeds)
-sound_kept end bench account is deeds left lands = record { tale = deeds_kept end bench account is.tale deeds left lands; sound = rings_kept bench deeds left lands is.sound }
+sound_kept end bench account is deeds calm left lands = record { tale = deeds_kept end bench account is.tale deeds calm left lands; sound = rings_kept bench deeds left lands is.sound }
 
 -- ---- what the account says
 
 module _ (end : End) (bench : BenchState) (account : Account) (tale : IsTale end bench account) where
   late_of : ClosedSince end account → IsLate end account
   late_of was =
-      let on_is : IsWay side_meaning (way_on was.until was.since) = subst (IsWay side_meaning) was.parts tale.way in
-      let same : way_takes side_meaning (way_on was.until was.since) end ≡ account.told = ap (λ (way : Way EndState). way_takes side_meaning way end) (sym was.parts) ∙ sym tale.told in
-      let most = shut_most side_meaning was.until was.since end was.closed was.is_way on_is in
-      let lengths : length (way_takes side_meaning (way_on was.until was.since) end) ≡ length (way_takes side_meaning was.until end) + length account.late =
-      ap length (same ∙ was.told) ∙ length-append (way_takes side_meaning was.until end) account.late in
+      let until = way_to_close was.before was.inc in
+      let on_is : IsWay side_meaning (way_on until was.since) = subst (IsWay side_meaning) was.parts tale.way in
+      let same : way_takes side_meaning (way_on until was.since) end ≡ account.told = ap (λ (way : Way EndState). way_takes side_meaning way end) (sym was.parts) ∙ sym tale.told in
+      let most = shut_most side_meaning until was.since end was.closed was.is_way on_is in
+      let lengths : length (way_takes side_meaning (way_on until was.since) end) ≡ length (way_takes side_meaning until end) + length account.late =
+      ap length (same ∙ was.told) ∙ length-append (way_takes side_meaning until end) account.late in
       record {
-        until = was.until;
+        before = was.before;
+        inc = was.inc;
         since = was.since;
-        parts = was.parts;
+        live = was.live;
         closed = was.closed;
+        parts = was.parts;
         told = was.told;
-        hands_none = ap (λ (way : Way EndState). handings_to (history side_meaning way) end) was.parts ∙ shut_hands_none side_meaning was.until was.since end was.closed;
-        handed_before = subst (λ (l : List Handing). IsPrefix l (handings_to (history side_meaning was.until) end)) same (shut_begins side_meaning was.until was.since end was.closed was.is_way on_is);
+        hands_none = ap (λ (way : Way EndState). handings_to (history side_meaning way) end) was.parts ∙ shut_hands_none side_meaning until was.since end was.closed;
+        handed_before = subst (λ (l : List Handing). IsPrefix l (handings_to (history side_meaning until) end)) same (shut_begins side_meaning until was.since end was.closed was.is_way on_is);
         one = omega (arith, most, lengths);
       }
 

@@ -1,10 +1,10 @@
 -- The account of a link: its own way since its last opening, and what was told of takes at an end of it since then (own).
-use Rattle.std.specs.Prelude.{◌≡◌, ◌≤◌, ℕ, Bool, true, false, List, [], ◌++◌, length, if◌then◌else◌}
+use Rattle.std.specs.Prelude.{◌≡◌, ◌≤◌, ℕ, Bool, true, false, List, [], ◌∷◌, ◌++◌, length, if◌then◌else◌}
 use Rattle.rp_base.specs.declared.kinds.BoundEndpoint.{BoundEndpoint}
 use Rattle.rp_base.specs.declared.kinds.End.{End}
 use Rattle.lane_model.specs.Links.{LinkState}
 use Rattle.lane_laws.specs.Handings.{Handing, IsPrefix, due, got, handed_front, messages_of, with_numbers}
-use Rattle.lane_laws.specs.Moves.{Move, handings_to, lane_to}
+use Rattle.lane_laws.specs.Moves.{Close, Move, handings_to, lane_to}
 use Rattle.lane_laws.specs.Takes.{IsTold, way_takes}
 use Rattle.lane_laws.specs.Ways.{IsWay, WasBoundOnWay, Way, history, link_of_way, way_on}
 use Rattle.channel_bus.specs.Sides.{EndState, side_meaning}
@@ -28,15 +28,21 @@ with_deeds end is_live account deeds = record {
   late = if is_live then [] else account.late ++ deeds.takes end;
 }
 
--- what was told at an end of a closed link since it was closed: there is the way up to then, nothing was handed over since, all that is told was handed over before, and one take at most was told since
+-- a way, and behind it the close of this incarnation
+abbrev pub way_to_close : Way EndState → ℕ → Way EndState
+way_to_close before inc = way_on before (Close inc ∷ [])
+
+-- what was told at an end of a closed link since it was closed: there is the way up to the close itself, before which the link was live, nothing was handed over since, all that is told was handed over before, and one take at most was told since
 pub record IsLate (end : End) (account : Account) : Type 0 where
-  pub until : Way EndState
+  pub before : Way EndState
+  pub inc : ℕ
   pub since : List Move
-  pub parts : account.way ≡ way_on until since
-  pub closed : (link_of_way side_meaning until).era.is_live ≡ false
-  pub told : account.told ≡ way_takes side_meaning until end ++ account.late
-  pub hands_none : handings_to (history side_meaning account.way) end ≡ handings_to (history side_meaning until) end
-  pub handed_before : IsPrefix account.told (handings_to (history side_meaning until) end)
+  pub live : (link_of_way side_meaning before).era.is_live ≡ true
+  pub closed : (link_of_way side_meaning (way_to_close before inc)).era.is_live ≡ false
+  pub parts : account.way ≡ way_on (way_to_close before inc) since
+  pub told : account.told ≡ way_takes side_meaning (way_to_close before inc) end ++ account.late
+  pub hands_none : handings_to (history side_meaning account.way) end ≡ handings_to (history side_meaning (way_to_close before inc)) end
+  pub handed_before : IsPrefix account.told (handings_to (history side_meaning (way_to_close before inc)) end)
   pub one : length account.late ≤ 1
 
 -- the account of a link: its way is one from its last opening on and leads to it; what takers were told at this end is what was handed over there on the way, but what a taker in its last step is yet to tell, or one that was reclaimed in a closed incarnation; so it is the first messages of the book, each once and in order, and to an endpoint from a sender how that begins which is due to it

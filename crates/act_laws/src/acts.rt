@@ -1,12 +1,12 @@
 //! Laws of what is done on links. Each is the contract of an empty function, and speaks of definitions alone.
 
-ghost use Rattle.std.specs.Prelude.{◌≡◌, ℕ, List, Option, Some};
+ghost use Rattle.std.specs.Prelude.{◌≡◌, ℕ, false, List, Option, Some};
 ghost use Rattle.rp_base.specs.declared.kinds.End.{End};
 ghost use Rattle.lane_model.specs.declared.calls.LinkConfig.{LinkConfig};
 ghost use Rattle.lane_model.specs.declared.calls.Wish.{Wish};
 ghost use Rattle.lane_model.specs.Links.{opened_link, with_caller};
 ghost use Rattle.lane_model.specs.Recoveries.{link_after_close, link_after_reclaim, link_after_reopen};
-ghost use Rattle.channel_bus.specs.Sides.{EndState};
+ghost use Rattle.channel_bus.specs.Sides.{EndState, side_meaning};
 ghost use Rattle.link_bench.specs.declared.acts.LinkAct.{LinkAct};
 ghost use Rattle.link_bench.specs.Acts.{IsFitAct, link_act};
 ghost use Rattle.link_bench.specs.BenchCrashes.{after_close, after_reclaim, after_reopen};
@@ -18,7 +18,8 @@ ghost use Rattle.core_actors.specs.Actors.{ActorsState};
 ghost use Rattle.crash_recover.specs.Cores.{CoreState};
 ghost use Rattle.core_actors.specs.ActorEnds.{actors_after_end};
 ghost use Rattle.crash_recover.specs.Drives.{drive_step};
-ghost use Rattle.core_laws.specs.BenchMoves.{IsReachedBench, IsReachedCore};
+ghost use Rattle.core_laws.specs.BenchMoves.{ComesBy, IsReachedBench, IsReachedCore};
+ghost use Rattle.core_laws.specs.ClosedLinks.{StaysClosed};
 ghost use Rattle.act_laws.specs.CoreDeeds.{crash_deeds, drive_deeds, ready_deeds};
 ghost use Rattle.act_laws.specs.Deeds.{act_deeds, one_move};
 ghost use Rattle.act_laws.specs.DoneDeeds.{AreDone};
@@ -31,6 +32,19 @@ pub fn acts_do()
     ensures core { (bench : BenchState) (actors : ActorsState) (steps : ℕ) (asked : LinkAct (List ℕ)) → IsFitAct asked → IsReachedBench bench
         → AreDone bench (act_deeds actors_after_end 2 bench actors steps asked) (link_act actors_after_end 2 bench actors steps asked).bench }
     ensures close { (bench : BenchState) → AreDone bench (one_move (Close (link_in bench).era.inc)) (after_close bench) }
+{}
+
+/// So what an act for callers does to a link, as a command of a script asks it, are moves of the link, one after the other, and in a closed incarnation
+/// no act hands anything over, and none opens it again.
+pub fn acts_are_moves()
+    ensures moves { (own : ℕ) (bench : BenchState) (steps : ℕ) (asked : LinkAct (List ℕ)) → IsFitAct asked → IsReachedBench bench
+        → ComesBy side_meaning (link_in bench) (link_in (link_act nobody_sees own bench (tt {0}) steps asked).bench) }
+    ensures of_core { (own : ℕ) (bench : BenchState) (actors : ActorsState) (steps : ℕ) (asked : LinkAct (List ℕ)) → IsFitAct asked → IsReachedBench bench
+        → ComesBy side_meaning (link_in bench) (link_in (link_act actors_after_end own bench actors steps asked).bench) }
+    ensures closed { (own : ℕ) (bench : BenchState) (steps : ℕ) (asked : LinkAct (List ℕ)) → IsFitAct asked → IsReachedBench bench → (link_in bench).era.is_live ≡ false
+        → StaysClosed (link_in bench) (link_in (link_act nobody_sees own bench (tt {0}) steps asked).bench) }
+    ensures closed_of_core { (own : ℕ) (bench : BenchState) (actors : ActorsState) (steps : ℕ) (asked : LinkAct (List ℕ)) → IsFitAct asked → IsReachedBench bench
+        → (link_in bench).era.is_live ≡ false → StaysClosed (link_in bench) (link_in (link_act actors_after_end own bench actors steps asked).bench) }
 {}
 
 /// The same of the link of a core: of one step of its actors, of the crash of its remote end, and of the new host caller that a recovery makes.

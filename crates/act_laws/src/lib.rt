@@ -3,4 +3,4 @@
 
 mod acts;
 
-pub use acts::{acts_do, cores_do, lists_alone};
+pub use acts::{acts_are_moves, acts_do, cores_do, lists_alone};

@@ -24,7 +24,7 @@ use Rattle.link_commands.specs.declared.acts.NamedAct.{NamedAct}
 use Rattle.link_commands.specs.declared.acts.NamedAct.TheVariants as under
 use Rattle.command_run.proofs.Driving.{keeps_same}
 use Rattle.command_run.proofs.Handed.{hands_kept}
-use Rattle.command_run.specs.Runs.{ObjectsState, RunState, RunEffect, core_located_effect, core_named, core_place, found_core_effect, found_effect, is_full, line_effect, located_effect, made_effect, name_effect, new_end, place_of, placed_core_effect, placed_effect, run_tells, unnamed_effect, with_links, without_link_effect}
+use Rattle.command_run.specs.Runs.{ObjectsState, RunState, RunEffect, effect_by_core_place, core_named, core_place, effect_of_core, effect_of_link, is_full, line_effect, effect_by_link_place, made_effect, name_effect, new_end, place_of, core_effect_at, link_effect_at, run_tells, unnamed_effect, with_links, without_link_effect}
 
 -- a link of the same name with another bench
 with_bench : (now named : NamedLink) (bench : BenchState) → now.name ≡ named.name → now.bench ≡ bench → record named { bench = bench } ≡ now
@@ -39,31 +39,31 @@ with_core now named core name same =
 module _ (fetched : Answer) (run : RunState) (called : List ℕ) (wanted : NamedAct (List ℕ)) where
   -- on the link at a place
   effect_at : (place : ℕ) (named : NamedLink) → Some place ≡ place_of run.objects.links called
-      → slice_get run.objects.links place ≡ Some named → name_effect fetched run called wanted ≡ placed_effect run place named (link_effect named run.steps wanted)
+      → slice_get run.objects.links place ≡ Some named → name_effect fetched run called wanted ≡ link_effect_at run place named (link_effect named run.steps wanted)
   unfolding name_effect
   effect_at place named placed found =
-      ap (located_effect fetched run called wanted) (sym placed) ∙ ap (found_effect fetched run called wanted place) found
+      ap (effect_by_link_place fetched run called wanted) (sym placed) ∙ ap (effect_of_link fetched run called wanted place) found
 
   -- on no link
   effect_unnamed : None ≡ place_of run.objects.links called → name_effect fetched run called wanted ≡ without_link_effect fetched run called wanted
   unfolding name_effect
-  effect_unnamed placed = ap (located_effect fetched run called wanted) (sym placed)
+  effect_unnamed placed = ap (effect_by_link_place fetched run called wanted) (sym placed)
 
   -- on the core at a place
   effect_on_core : (place : ℕ) (named : NamedCoreState) → Some place ≡ core_place run.objects.cores called
-      → slice_get run.objects.cores place ≡ Some named → without_link_effect fetched run called wanted ≡ placed_core_effect run place named (core_effect run.objects.images fetched run.objects.is_quiet named run.steps wanted)
+      → slice_get run.objects.cores place ≡ Some named → without_link_effect fetched run called wanted ≡ core_effect_at run place named (core_effect run.objects.images fetched run.objects.is_quiet named run.steps wanted)
   unfolding without_link_effect
   effect_on_core place named placed found =
-      ap (core_located_effect fetched run called wanted) (sym placed) ∙ ap (found_core_effect fetched run called wanted place) found
+      ap (effect_by_core_place fetched run called wanted) (sym placed) ∙ ap (effect_of_core fetched run called wanted place) found
 
   -- on no core
   effect_on_none : None ≡ core_place run.objects.cores called → without_link_effect fetched run called wanted ≡ unnamed_effect run called wanted
   unfolding without_link_effect
-  effect_on_none placed = ap (core_located_effect fetched run called wanted) (sym placed)
+  effect_on_none placed = ap (effect_by_core_place fetched run called wanted) (sym placed)
 
   -- on the core at a place, where no link has the name
   pub effect_on_bare_core : (place : ℕ) (named : NamedCoreState) → None ≡ place_of run.objects.links called → Some place ≡ core_place run.objects.cores called
-      → slice_get run.objects.cores place ≡ Some named → name_effect fetched run called wanted ≡ placed_core_effect run place named (core_effect run.objects.images fetched run.objects.is_quiet named run.steps wanted)
+      → slice_get run.objects.cores place ≡ Some named → name_effect fetched run called wanted ≡ core_effect_at run place named (core_effect run.objects.images fetched run.objects.is_quiet named run.steps wanted)
   effect_on_bare_core place named bare placed found = effect_unnamed bare ∙ effect_on_core place named placed found
 
   module _ (before after : LogState) (answer : Option Stop) where
@@ -73,7 +73,7 @@ module _ (fetched : Answer) (run : RunState) (called : List ℕ) (wanted : Named
         → HasRunEffect (name_effect fetched run called wanted) (record run.objects { links = slice_set run.objects.links place now }) before after answer
     placed_run place named now placed found name did =
         let effect = link_effect named run.steps wanted in
-        let done : HasRunEffect (placed_effect run place named effect) (record run.objects { links = slice_set run.objects.links place now }) before after answer =
+        let done : HasRunEffect (link_effect_at run place named effect) (record run.objects { links = slice_set run.objects.links place now }) before after answer =
         record {
           objects = sym (ap (λ (n : NamedLink). record run.objects { links = slice_set run.objects.links place n }) (with_bench now named effect.bench name did.bench));
           steps = did.steps;
@@ -94,7 +94,7 @@ module _ (fetched : Answer) (run : RunState) (called : List ℕ) (wanted : Named
         → HasRunEffect (without_link_effect fetched run called wanted) (record run.objects { cores = slice_set run.objects.cores place now }) before after answer
     core_run place named now placed found name did =
         let effect = core_effect run.objects.images fetched run.objects.is_quiet named run.steps wanted in
-        let done : HasRunEffect (placed_core_effect run place named effect) (record run.objects { cores = slice_set run.objects.cores place now }) before after answer =
+        let done : HasRunEffect (core_effect_at run place named effect) (record run.objects { cores = slice_set run.objects.cores place now }) before after answer =
         record {
           objects = sym (ap (λ (n : NamedCoreState). record run.objects { cores = slice_set run.objects.cores place n }) (with_core now named effect.core name did.core));
           steps = did.steps;
@@ -142,10 +142,10 @@ module _ (fetched : Answer) (run : RunState) (called : List ℕ) (count place : 
   abbrev driven : CoreEffect
   driven = drive_effect named.name run.objects.is_quiet named.core run.steps count
 
-  pub drive_placed : name_effect fetched run called (under.Core (core.Drive count)) ≡ placed_core_effect run place named driven
+  pub drive_placed : name_effect fetched run called (under.Core (core.Drive count)) ≡ core_effect_at run place named driven
   drive_placed =
       effect_on_bare_core fetched run called (under.Core (core.Drive count)) place named bare placed found
-      ∙ ap (placed_core_effect run place named) (drive_on_core run.objects.images fetched run.objects.is_quiet named run.steps count)
+      ∙ ap (core_effect_at run place named) (drive_on_core run.objects.images fetched run.objects.is_quiet named run.steps count)
 
   -- what a drive of the core at a place did is what the run did
   pub drive_run : (before after : LogState) (written new : Option (List ℕ)) (answer : Option Stop) (now : NamedCoreState) → now.name ≡ named.name

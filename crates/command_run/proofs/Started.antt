@@ -28,7 +28,7 @@ use Rattle.link_commands.specs.Logs.{LogState}
 use Rattle.command_run.specs.Outcomes.{HandsRunEffect, HasCoreEffect, HasRunEffect}
 use Rattle.command_run.specs.NamedCores.{NamedCoreState}
 use Rattle.command_run.specs.NamedImages.{ImageState}
-use Rattle.command_run.specs.Runs.{ObjectsState, RunEffect, RunState, asked_name, core_named, core_place, act_asks, core_act, effect_of, line_effect, name_effect, outside_image, place_of, placed_core_effect, start_image, takes_over}
+use Rattle.command_run.specs.Runs.{ObjectsState, RunEffect, RunState, asked_name, core_named, core_place, act_asks, core_act, effect_of, line_effect, name_effect, outside_image, place_of, core_effect_at, start_image, takes_over}
 use Rattle.command_run.specs.Starts.{DidStart, StartsOver}
 use Rattle.command_run.specs.Stores.{Answer}
 use Rattle.link_commands.specs.Acts.{line_of as line_of_command}
@@ -197,10 +197,10 @@ module _ (images : Option (List (List ℕ × List ℕ))) (run : RunState) (askin
     abbrev left_so : ObjectsState
     left_so = record run.objects { cores = slice_set run.objects.cores place now }
 
-    placed_so : (answer : Answer) → effect_of answer run asking ≡ placed_core_effect run place named (started_effect start run.objects.images answer named run.steps)
+    placed_so : (answer : Answer) → effect_of answer run asking ≡ core_effect_at run place named (started_effect start run.objects.images answer named run.steps)
     placed_so answer =
         core_line answer run asking called (core.Start start) asks ∙ effect_on_bare_core answer run called (under.Core (core.Start start)) place named none placed there
-        ∙ ap (placed_core_effect run place named) (start_on_core run.objects.images answer run.objects.is_quiet named run.steps start)
+        ∙ ap (core_effect_at run place named) (start_on_core run.objects.images answer run.objects.is_quiet named run.steps start)
 
     did_so : (answer : Answer) (ending : Option Stop) → HasCoreEffect (started_effect start run.objects.images answer named before.steps) now.core before after ending
         → HasRunEffect (effect_of answer run asking) left_so before after ending

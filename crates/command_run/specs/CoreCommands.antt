@@ -42,13 +42,13 @@ unfoldable pub region_effect : List ℕ → CoreState → ℕ → Region → Cor
 region_effect name core steps region = added_effect name core steps region (add_fault core region)
 
 -- a driver that is declared behind the others, or why it isn't
-abbrev pub declared_effect : List ℕ → CoreState → ℕ → List ℕ → DriverKind → Option AddFault → CoreEffect
-declared_effect name core steps channel kind None = core_tells (with_driver core (channel, kind)) steps (event.Driver name channel kind)
-declared_effect name core steps channel kind (Some why) = core_tells_all core steps (add_fault_events name channel why)
+abbrev pub driver_effect_unless : List ℕ → CoreState → ℕ → List ℕ → DriverKind → Option AddFault → CoreEffect
+driver_effect_unless name core steps channel kind None = core_tells (with_driver core (channel, kind)) steps (event.Driver name channel kind)
+driver_effect_unless name core steps channel kind (Some why) = core_tells_all core steps (add_fault_events name channel why)
 
 -- `driver X NAME KIND`
 unfoldable pub driver_effect : List ℕ → CoreState → ℕ → List ℕ → DriverKind → CoreEffect
-driver_effect name core steps channel kind = declared_effect name core steps channel kind (driver_add_fault core channel)
+driver_effect name core steps channel kind = driver_effect_unless name core steps channel kind (driver_add_fault core channel)
 
 -- whether a switch is on
 abbrev pub is_on : Switch → Bool

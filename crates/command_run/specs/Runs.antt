@@ -121,48 +121,48 @@ unnamed_effect run name (under.Show shown) = run_tells run (event.Unknown name)
 unnamed_effect run name (under.Core asked) = run_tells run (event.Unknown name)
 
 -- the run with what a command leaves of the link at this place
-abbrev pub placed_effect : RunState → ℕ → NamedLink → Effect → RunEffect
-placed_effect run place named effect = record {
+abbrev pub link_effect_at : RunState → ℕ → NamedLink → Effect → RunEffect
+link_effect_at run place named effect = record {
   run = record (with_links run (slice_set run.objects.links place (record named { bench = effect.bench }))) { steps = effect.steps };
   events = effect.events;
   ending = effect.ending;
 }
 
 -- the run with what a command leaves of the core at this place
-abbrev pub placed_core_effect : RunState → ℕ → NamedCoreState → CoreEffect → RunEffect
-placed_core_effect run place named effect = record {
+abbrev pub core_effect_at : RunState → ℕ → NamedCoreState → CoreEffect → RunEffect
+core_effect_at run place named effect = record {
   run = record (with_cores run (slice_set run.objects.cores place (record named { core = effect.core }))) { steps = effect.steps };
   events = effect.events;
   ending = effect.ending;
 }
 
 -- an act on the core at this place, or on none
-abbrev pub found_core_effect : Answer → RunState → List ℕ → NamedAct (List ℕ) → ℕ → Option NamedCoreState → RunEffect
-found_core_effect answer run name act place None = unnamed_effect run name act
-found_core_effect answer run name act place (Some on) = placed_core_effect run place on (core_effect run.objects.images answer run.objects.is_quiet on run.steps act)
+abbrev pub effect_of_core : Answer → RunState → List ℕ → NamedAct (List ℕ) → ℕ → Option NamedCoreState → RunEffect
+effect_of_core answer run name act place None = unnamed_effect run name act
+effect_of_core answer run name act place (Some on) = core_effect_at run place on (core_effect run.objects.images answer run.objects.is_quiet on run.steps act)
 
 -- an act on the core of its name, or on none
-abbrev pub core_located_effect : Answer → RunState → List ℕ → NamedAct (List ℕ) → Option ℕ → RunEffect
-core_located_effect answer run name act None = unnamed_effect run name act
-core_located_effect answer run name act (Some place) = found_core_effect answer run name act place (slice_get run.objects.cores place)
+abbrev pub effect_by_core_place : Answer → RunState → List ℕ → NamedAct (List ℕ) → Option ℕ → RunEffect
+effect_by_core_place answer run name act None = unnamed_effect run name act
+effect_by_core_place answer run name act (Some place) = effect_of_core answer run name act place (slice_get run.objects.cores place)
 
 -- an act under a name that no link has
 unfoldable pub without_link_effect : Answer → RunState → List ℕ → NamedAct (List ℕ) → RunEffect
-without_link_effect answer run name act = core_located_effect answer run name act (core_place run.objects.cores name)
+without_link_effect answer run name act = effect_by_core_place answer run name act (core_place run.objects.cores name)
 
 -- an act on the link at this place, or on none
-abbrev pub found_effect : Answer → RunState → List ℕ → NamedAct (List ℕ) → ℕ → Option NamedLink → RunEffect
-found_effect answer run name act place None = without_link_effect answer run name act
-found_effect answer run name act place (Some on) = placed_effect run place on (link_effect on run.steps act)
+abbrev pub effect_of_link : Answer → RunState → List ℕ → NamedAct (List ℕ) → ℕ → Option NamedLink → RunEffect
+effect_of_link answer run name act place None = without_link_effect answer run name act
+effect_of_link answer run name act place (Some on) = link_effect_at run place on (link_effect on run.steps act)
 
 -- an act on the link of its name, or on none
-abbrev pub located_effect : Answer → RunState → List ℕ → NamedAct (List ℕ) → Option ℕ → RunEffect
-located_effect answer run name act None = without_link_effect answer run name act
-located_effect answer run name act (Some place) = found_effect answer run name act place (slice_get run.objects.links place)
+abbrev pub effect_by_link_place : Answer → RunState → List ℕ → NamedAct (List ℕ) → Option ℕ → RunEffect
+effect_by_link_place answer run name act None = without_link_effect answer run name act
+effect_by_link_place answer run name act (Some place) = effect_of_link answer run name act place (slice_get run.objects.links place)
 
 -- an act under a name
 unfoldable pub name_effect : Answer → RunState → List ℕ → NamedAct (List ℕ) → RunEffect
-name_effect answer run name act = located_effect answer run name act (place_of run.objects.links name)
+name_effect answer run name act = effect_by_link_place answer run name act (place_of run.objects.links name)
 
 -- the place of the image of this name
 abbrev pub image_place : List ImageState → List ℕ → Option ℕ
@@ -199,13 +199,13 @@ abbrev pub with_dump : RunState → List ℕ → List ℕ → RunState
 with_dump run name bytes = record run { objects = record run.objects { images = run.objects.images ++ record { name = name; bytes = bytes; is_dump = true } ∷ [] } }
 
 -- a dump is kept, or something is told in its place
-abbrev pub dumped_effect : RunState → List ℕ → Result (List ℕ) Event → RunEffect
-dumped_effect run image (Ok bytes) = run_tells (with_dump run image bytes) (event.Image image (length bytes))
-dumped_effect run image (Err told) = run_tells run told
+abbrev pub dump_effect_of : RunState → List ℕ → Result (List ℕ) Event → RunEffect
+dump_effect_of run image (Ok bytes) = run_tells (with_dump run image bytes) (event.Image image (length bytes))
+dump_effect_of run image (Err told) = run_tells run told
 
 -- `dump X FW`
 unfoldable pub dump_effect : RunState → List ℕ → List ℕ → RunEffect
-dump_effect run name image = dumped_effect run image (dump_answer run.objects name image)
+dump_effect run name image = dump_effect_of run image (dump_answer run.objects name image)
 
 -- `quiet SWITCH`, which tells nothing
 unfoldable pub quiet_effect : RunState → Switch → RunEffect

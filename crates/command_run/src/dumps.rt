@@ -5,7 +5,7 @@ ghost use Rattle.core_dump.specs.Parts.{AreParts};
 ghost use Rattle.crash_recover.specs.Cores.{load_view};
 ghost use Rattle.command_run.specs.Dumps.{bytes_answer, crashed_load, kept_dumps, load_answer};
 ghost use Rattle.command_run.specs.Outcomes.{HasRunEffect};
-ghost use Rattle.command_run.specs.Runs.{dump_answer, dump_effect, dumped_effect};
+ghost use Rattle.command_run.specs.Runs.{dump_answer, dump_effect, dump_effect_of};
 
 use crate::objects::has_image;
 use crate::{Objects, ScriptImage};
@@ -60,7 +60,7 @@ impl Objects {
         bytes: Vec<u8>,
         log: &mut RunLog,
     ) -> Result<Option<Stop>, NoMemory>
-        ensures { IfOk result (λ ending. HasRunEffect (dumped_effect (record { objects = self.old; steps = log.old.steps }) image (Ok bytes.items)) self.new log.old log.new ending) }
+        ensures { IfOk result (λ ending. HasRunEffect (dump_effect_of (record { objects = self.old; steps = log.old.steps }) image (Ok bytes.items)) self.new log.old log.new ending) }
     {
         let len = bytes.len() as u64;
         self.images.push(ScriptImage {

@@ -1,84 +1,154 @@
--- The link of a core whose life begins is empty.
-use Rattle.std.proofs.Common.{◌≡◌, ℕ, true, List, Option, Some, None, IfSome, Result, Ok, Err, refl, sym, ap, ◌∙◌}
+-- The link of a core whose life begins is empty, in the next incarnation of that life.
+use Rattle.std.proofs.Common.{◌≡◌, ◌+◌, ◌==◌, ℕ, true, List, Option, Some, None, IfSome, Result, Ok, Err, refl, sym, ap, subst, ◌∙◌}
 use Rattle.std.specs.Option.{option_map}
 use Rattle.std.proofs.lemmas.Bool.{cond_both, true≢false}
+use Rattle.rp_base.specs.declared.kinds.End.{End}
+use Rattle.rp_base.specs.declared.kinds.End.TheVariants as side
+use Rattle.rp_base.specs.declared.kinds.LifeState.{LifeState}
 use Rattle.fw_load.specs.declared.rings.RingPair.{RingPair}
+use Rattle.lane_model.specs.declared.recoveries.ReclaimRefusal.{ReclaimRefusal}
+use Rattle.lane_model.specs.Links.{end_of}
+use Rattle.lane_model.specs.Recoveries.{link_reclaim_refusal, without_caller}
 use Rattle.proc_state.specs.declared.answers.LifeFault.{LifeFault}
+use Rattle.proc_state.specs.declared.answers.LifeFault.TheVariants as life_fault
 use Rattle.proc_state.specs.declared.answers.Power.{Power}
 use Rattle.proc_state.specs.declared.answers.Power.TheVariants as power
-use Rattle.proc_state.specs.Lives.{CoreLife, is_offline, life_after_boot}
-use Rattle.link_bench.specs.Benches.{BenchState}
+use Rattle.proc_state.specs.Lives.{CoreLife, Outcome, boot_to, first_start, is_offline, life_after_boot, line_of, most, recovery_to, refusal_of}
+use Rattle.link_bench.specs.Benches.{BenchState, LinkRings, link_in, on_rings}
 use Rattle.link_bench.specs.BenchCrashes.{after_reopen}
-use Rattle.link_bench.specs.BenchEnds.{bench_to_reopen}
+use Rattle.link_bench.specs.BenchEnds.{bench_to_reopen, with_new_host_unless}
 use Rattle.crash_recover.specs.declared.core_answers.Start.{Start}
 use Rattle.crash_recover.specs.declared.core_answers.Start.TheVariants as start
 use Rattle.crash_recover.specs.declared.core_faults.CoreFault.{CoreFault}
 use Rattle.crash_recover.specs.declared.core_faults.CoreFault.TheVariants as fault
 use Rattle.core_actors.specs.Actors.{driver_names}
-use Rattle.crash_recover.specs.Cores.{CoreOutcome, CoreState, loaded_rings, refuse_or}
+use Rattle.crash_recover.specs.Cores.{CoreOutcome, CoreState, IsKeptCore, loaded_rings, refuse_or}
 use Rattle.crash_recover.specs.CoreBoots.{Found, boot_as, boot_of, core_bench, first_boot, image_fault, load_in, started_core, with_load}
 use Rattle.crash_recover.specs.CoreRecoveries.{core_to_reopen, recovery_fault, recovery_of, reload_fault, reopen_fault}
-use Rattle.core_laws.specs.Beginnings.{BeginsEmpty, begins_life}
+use Rattle.crash_recover.specs.KeptCores.{IsKeptBench}
+use Rattle.crash_recover.proofs.Restarts.{recovers}
+use Rattle.crash_recover.proofs.SameLives.{no_first}
+use Rattle.core_laws.specs.Beginnings.{BeginsEmpty, BeginsLife, ReopensNext, begins_life}
+use Rattle.core_laws.proofs.Outcomes.{none_mapped}
+
+-- ---- links
 
 -- a new link of a core
-core_bench_empty : (names : List (List ℕ)) (book first : ℕ) (rings : RingPair) → BeginsEmpty (core_bench names book first rings)
+core_bench_empty : (names : List (List ℕ)) (book first : ℕ) (rings : RingPair) → BeginsEmpty first (core_bench names book first rings)
 unfolding core_bench
 core_bench_empty names book first rings = record {
+  incarnation = refl;
   live = refl;
   to_host = record { accepted = refl; takers = refl; held = refl; returned = refl; sender = refl; receiver = refl };
   to_remote = record { accepted = refl; takers = refl; held = refl; returned = refl; sender = refl; receiver = refl };
 }
 
-linked_empty : (names : List (List ℕ)) (book first : ℕ) (rings : Option RingPair) → IfSome (option_map (core_bench names book first) rings) BeginsEmpty
+linked_empty : (names : List (List ℕ)) (book first : ℕ) (rings : Option RingPair) → IfSome (option_map (core_bench names book first) rings) (BeginsEmpty first)
 linked_empty names book first None = tt
 linked_empty names book first (Some rings) = core_bench_empty names book first rings
 
 -- a link that is reopened
-reopened_empty : (bench : BenchState) → BeginsEmpty (after_reopen bench)
+pub reopened_empty : (bench : BenchState) → BeginsEmpty ((link_in bench).era.inc + 1) (after_reopen bench)
 reopened_empty bench = record {
+  incarnation = refl;
   live = refl;
   to_host = record { accepted = refl; takers = refl; held = refl; returned = refl; sender = refl; receiver = refl };
   to_remote = record { accepted = refl; takers = refl; held = refl; returned = refl; sender = refl; receiver = refl };
 }
 
-readied_empty : (bench : Option BenchState) → IfSome (option_map (λ (b : BenchState). after_reopen (bench_to_reopen b)) bench) BeginsEmpty
-readied_empty None = tt
-readied_empty (Some bench) = reopened_empty (bench_to_reopen bench)
+-- a reclaim leaves the incarnation as it is
+reclaim_same : (rings : LinkRings) (found : Option End) (caller : ℕ) → (without_caller on_rings rings found caller).era ≡ rings.era
+reclaim_same rings None caller = refl
+reclaim_same rings (Some side.Host) caller = refl
+reclaim_same rings (Some side.Remote) caller = refl
 
--- where a life begins with this outcome its link is empty
-abbrev pub Empties : CoreOutcome Start CoreFault → Type 0
-Empties outcome = (did : Start) → begins_life did ≡ true → outcome.answer ≡ Ok did → IfSome outcome.core.bench BeginsEmpty
+renewed_same : (bench : BenchState) (why : Option ReclaimRefusal) → (link_in (with_new_host_unless bench why)).era ≡ (link_in bench).era
+renewed_same bench None = reclaim_same bench.rings (end_of (link_in bench).callers 0) 0
+renewed_same bench (Some why) = refl
+
+readied_next : (found : Option BenchState) → ReopensNext found (option_map (λ (bench : BenchState). after_reopen (bench_to_reopen bench)) found)
+readied_next None = refl
+readied_next (Some bench) =
+    subst (λ (inc : ℕ). BeginsEmpty (inc + 1) (after_reopen (bench_to_reopen bench))) (ap (λ era. era.inc) (renewed_same bench (link_reclaim_refusal (link_in bench) 0)))
+    (reopened_empty (bench_to_reopen bench))
+
+-- the link behind one that is in the incarnation of a life
+kept_next : (life : CoreLife) (found : Option BenchState) → IfSome found (IsKeptBench life)
+    → IfSome (option_map (λ (bench : BenchState). after_reopen (bench_to_reopen bench)) found) (BeginsEmpty (life.incarnation + 1))
+kept_next life None kept = tt
+kept_next life (Some bench) kept = subst (λ (inc : ℕ). BeginsEmpty (inc + 1) (after_reopen (bench_to_reopen bench))) kept.inc (readied_next (Some bench))
+
+-- ---- lives
+
+-- a life that starts is in its next incarnation
+first_next : {A : Type 0} (state : LifeState) (users : ℕ) (told done : A) (life : CoreLife) → (first_start state users told life).answer ≡ Ok done
+    → (first_start state users told life).life.incarnation ≡ life.incarnation + 1
+first_next {A} state users told done life =
+    cond_both (life.incarnation == most) (refusal_of life_fault.IncarnationsSpent life) _ (λ (out : Outcome A). out.answer ≡ Ok done → out.life.incarnation ≡ life.incarnation + 1)
+    (λ _ is. absurd (cc)) (λ _ is. refl)
+
+boot_next : (to : Option LifeState) (life : CoreLife) → (boot_to to life).answer ≡ Ok power.First → (boot_to to life).life.incarnation ≡ life.incarnation + 1
+boot_next None life is = absurd (no_first life is)
+boot_next (Some state) life is = first_next state 1 power.First power.First life is
+
+recovery_next : (to : Option LifeState) (life : CoreLife) → (recovery_to to life).answer ≡ Ok tt → (recovery_to to life).life.incarnation ≡ life.incarnation + 1
+recovery_next None life is = absurd (cc)
+recovery_next (Some state) life is =
+    cond_both life.recovery (first_start state life.users tt life) (refusal_of life_fault.RecoveryOff life)
+    (λ (out : Outcome (Unit {0})). out.answer ≡ Ok tt → out.life.incarnation ≡ life.incarnation + 1)
+    (λ _. first_next state life.users tt tt life) (λ _ off. absurd (cc)) is
+
+-- ---- cores
+
+-- where a life begins with this outcome, this holds of its core
+abbrev pub Begun : (CoreState → Type 0) → CoreOutcome Start CoreFault → Type 0
+Begun Q outcome = (did : Start) → begins_life did ≡ true → outcome.answer ≡ Ok did → Q outcome.core
 
 users_begin_none : (users : ℕ) (did : Start) → begins_life did ≡ true → start.Users users ≡ did → ⊥
 users_begin_none users did begins same = true≢false (sym (ap begins_life same ∙ begins))
 
-first_empties : (life : CoreLife) (core : CoreState) (name : List ℕ) (found : Found) → Empties (first_boot life core name found)
-first_empties life core name found =
+first_begins : (life : CoreLife) (core : CoreState) (name : List ℕ) (found : Found) → Begun (BeginsLife life.incarnation) (first_boot life core name found)
+first_begins life core name found =
     let done : CoreOutcome Start CoreFault = record { core = started_core life (with_load core name (load_in core found)); answer = Ok (start.Running life.incarnation) } in
-    cond_both (is_offline core.life.state) (refuse_or core (image_fault core found) done) (record { core = started_core life core; answer = Ok (start.Attached life.incarnation) }) Empties
-    (λ _. elim (image_fault core found) as (λ refused. Empties (refuse_or core refused done)) [
-      | None ↦ λ did begins is. linked_empty (driver_names core.actors) core.book life.incarnation (load_in core found).rings
+    cond_both (is_offline core.life.state) (refuse_or core (image_fault core found) done) (record { core = started_core life core; answer = Ok (start.Attached life.incarnation) }) (Begun (BeginsLife life.incarnation))
+    (λ _. elim (image_fault core found) as (λ refused. Begun (BeginsLife life.incarnation) (refuse_or core refused done)) [
+      | None ↦ λ did begins is. record { life = refl; link = linked_empty (driver_names core.actors) core.book life.incarnation (load_in core found).rings }
       | Some why ↦ λ did begins is. absurd (cc)
     ])
-    (λ _ did begins is. linked_empty (driver_names core.actors) core.book life.incarnation (loaded_rings core.loaded))
+    (λ _ did begins is. record { life = refl; link = linked_empty (driver_names core.actors) core.book life.incarnation (loaded_rings core.loaded) })
 
-boot_as_empties : (life : CoreLife) (answer : Result Power LifeFault) (core : CoreState) (name : List ℕ) (found : Found) → Empties (boot_as life answer core name found)
-boot_as_empties life (Err why) core name found did begins is = absurd (cc)
-boot_as_empties life (Ok (power.Counted users)) core name found did begins is = let same : start.Users users ≡ did = cc in absurd (users_begin_none users did begins same)
-boot_as_empties life (Ok power.First) core name found did begins is = first_empties life core name found did begins is
+boot_as_begins : (inc : ℕ) (life : CoreLife) (answer : Result Power LifeFault) (core : CoreState) (name : List ℕ) (found : Found) → (answer ≡ Ok power.First → life.incarnation ≡ inc)
+    → Begun (BeginsLife inc) (boot_as life answer core name found)
+boot_as_begins inc life (Err why) core name found next did begins is = absurd (cc)
+boot_as_begins inc life (Ok (power.Counted users)) core name found next did begins is = let same : start.Users users ≡ did = cc in absurd (users_begin_none users did begins same)
+boot_as_begins inc life (Ok power.First) core name found next did begins is =
+    subst (λ (there : ℕ). BeginsLife there (first_boot life core name found).core) (next refl) (first_begins life core name found did begins is)
 
-pub boot_empties : (core : CoreState) (name : List ℕ) (found : Found) → Empties (boot_of core name found)
+pub boot_begins : (core : CoreState) (name : List ℕ) (found : Found) → Begun (BeginsLife (core.life.incarnation + 1)) (boot_of core name found)
 unfolding boot_of
-boot_empties core name found = boot_as_empties (life_after_boot core.life).life (life_after_boot core.life).answer core name found
+boot_begins core name found =
+    boot_as_begins (core.life.incarnation + 1) (life_after_boot core.life).life (life_after_boot core.life).answer core name found (boot_next (line_of core.life.state).boot core.life)
 
 -- where nothing refuses it
-unless_refused : (core : CoreState) (refused : Option CoreFault) (done : CoreOutcome Start CoreFault) → Empties done → Empties (refuse_or core refused done)
-unless_refused core None done empties did begins is = empties did begins is
-unless_refused core (Some why) done empties did begins is = absurd (cc)
+unless_refused : (Q : CoreState → Type 0) (core : CoreState) (refused : Option CoreFault) (done : CoreOutcome Start CoreFault) → (refused ≡ None → Begun Q done) → Begun Q (refuse_or core refused done)
+unless_refused Q core None done rest did begins is = rest refl did begins is
+unless_refused Q core (Some why) done rest did begins is = absurd (cc)
 
-pub recovery_empties : (core : CoreState) (found : Found) → Empties (recovery_of core found)
+pub recovery_reopens : (core : CoreState) (found : Found) → Begun (λ (after : CoreState). ReopensNext core.bench after.bench) (recovery_of core found)
 unfolding recovery_of
-recovery_empties core found =
-    unless_refused core (option_map fault.Life (recovery_fault core.life)) _
-    (unless_refused core (reload_fault core found) _
-    (unless_refused (core_to_reopen core) (reopen_fault core) _ (λ did begins is. readied_empty core.bench)))
+recovery_reopens core found =
+    let Q : CoreState → Type 0 = λ after. ReopensNext core.bench after.bench in
+    unless_refused Q core (option_map fault.Life (recovery_fault core.life)) _ (λ _.
+    unless_refused Q core (reload_fault core found) _ (λ _.
+    unless_refused Q (core_to_reopen core) (reopen_fault core) _ (λ _ did begins is. readied_next core.bench)))
+
+pub recovery_begins : (core : CoreState) (found : Found) → IsKeptCore core → Begun (BeginsLife (core.life.incarnation + 1)) (recovery_of core found)
+unfolding recovery_of
+recovery_begins core found kept =
+    let Q = BeginsLife (core.life.incarnation + 1) in
+    unless_refused Q core (option_map fault.Life (recovery_fault core.life)) _ (λ may.
+    unless_refused Q core (reload_fault core found) _ (λ _.
+    unless_refused Q (core_to_reopen core) (reopen_fault core) _ (λ opens did begins is. record {
+      life = recovery_next (line_of core.life.state).recovery core.life (recovers core (none_mapped fault.Life (recovery_fault core.life) may) opens);
+      link = kept_next core.life core.bench kept;
+    })))

@@ -1,5 +1,5 @@
 -- What the calls of a core leave of its link is reached where it was.
-use Rattle.std.proofs.Common.{◌≡◌, ℕ, zero, suc, ◌+◌, eqb, cond, Bool, true, false, List, [], ◌∷◌, All, Option, Some, None, IfSome, is_some, option_map, refl, ap, arith, length, ◌≤◌}
+use Rattle.std.proofs.Common.{◌≡◌, ℕ, cond, Bool, true, false, List, [], ◌∷◌, All, Option, Some, None, IfSome, is_some, option_map, refl, ap, arith, length, ◌≤◌}
 use Rattle.std.specs.Option.{option_or}
 use Rattle.std.proofs.lemmas.Bool.{cond_both, true≢false}
 use Rattle.rp_base.specs.declared.kinds.End.{End}
@@ -8,16 +8,11 @@ use Rattle.lane_model.specs.declared.calls.CallEnd.{CallEnd}
 use Rattle.lane_model.specs.declared.calls.Wish.{Wish}
 use Rattle.lane_model.specs.declared.recoveries.ReclaimRefusal.{ReclaimRefusal}
 use Rattle.lane_model.specs.declared.recoveries.ReopenFault.{ReopenFault}
-use Rattle.lane_model.specs.Lanes.{holder}
 use Rattle.lane_model.specs.Links.{end_of}
 use Rattle.lane_model.specs.Recoveries.{link_reopen_refusal, link_reclaim_refusal, without_caller}
 use Rattle.fw_load.specs.declared.rings.RingPair.{RingPair}
-use Rattle.core_actors.specs.declared.actors.Actor.{Actor}
-use Rattle.core_actors.specs.declared.actors.Actor.TheVariants as actor
 use Rattle.link_bench.specs.declared.benches.BenchFault.{BenchFault}
 use Rattle.link_bench.specs.declared.benches.Reach.TheVariants as reach
-use Rattle.core_actors.specs.declared.progress.Driven.{Driven}
-use Rattle.core_actors.specs.declared.progress.Driven.TheVariants as driven
 use Rattle.crash_recover.specs.declared.core_faults.CoreFault.{CoreFault}
 use Rattle.crash_recover.specs.declared.core_faults.CoreFault.TheVariants as fault
 use Rattle.link_bench.specs.declared.benches.Reach.{Reach}
@@ -28,19 +23,21 @@ use Rattle.memory_pool.specs.declared.regions.Region.{Region}
 use Rattle.host_driver.specs.Drivers.{Declared}
 use Rattle.core_actors.specs.Actors.{ActorsState, driver_names}
 use Rattle.link_bench.specs.Benches.{BenchState, BenchWalk, IsSendable, LinkRings, advance_walk, begin_fault, is_in_call, link_in, on_rings, start_walk}
-use Rattle.link_bench.specs.BenchCrashes.{after_close, after_reclaim, after_reopen}
+use Rattle.link_bench.specs.BenchCrashes.{after_reclaim, after_reopen}
 use Rattle.crash_recover.specs.CoreBoots.{config_of, core_bench, fresh_end, load_in, started_core}
-use Rattle.link_bench.specs.BenchEnds.{crashed_bench, is_first, is_remote, with_fresh_caller, without_one, without_other, without_others, without_remote, bench_to_reopen, with_new_host_unless, reopen_refusal_of, reopen_refusal_by}
+use Rattle.link_bench.specs.BenchEnds.{crashed_bench, with_fresh_caller, bench_to_reopen, with_new_host_unless, reopen_refusal_of, reopen_refusal_by}
 use Rattle.crash_recover.specs.CoreCrashes.{after_report}
 use Rattle.crash_recover.specs.CoreRecoveries.{after_recovery, core_to_reopen, fault_with, link_fault, reopen_fault, reopened_core, spent_fault}
 use Rattle.crash_recover.specs.Cores.{CoreState, LoadState, loaded_rings, new_core}
 use Rattle.core_actors.specs.ActorEnds.{actors_after_drivers, actors_at_end, calls_after_end, end_answer, gives_of, host_after_call, message_of, sends_of, taken_number}
-use Rattle.core_actors.specs.ActorSteps.{first_or_take, has_calls, host_after_step, host_at_step, host_at_step_as, link_step, wishes_of_work, worker_after_step}
-use Rattle.crash_recover.specs.Drives.{DriveStep, actor_step, actor_to_step, core_with_report, drive_step, host_step, is_idle, placed_map, record_run, record_step, with_turn_after, worker_call, worker_step}
+use Rattle.core_actors.specs.ActorSteps.{first_or_take, host_after_step, host_at_step, host_at_step_as, link_step, wishes_of_work, worker_after_step}
+use Rattle.crash_recover.specs.Drives.{drive_step, placed_map}
+use Rattle.core_laws.proofs.DriveWalks.{AreKeptParts, drive_kept, of_link}
 use Rattle.core_laws.proofs.Outcomes.{Stays, report_stays}
 use Rattle.proc_state.specs.Lives.{CoreLife}
 use Rattle.core_laws.specs.BenchMoves.{AreSendable, IsReachedBench, IsReachedCore, IsShortLink}
 use Rattle.core_laws.proofs.Sendable.{end_short, gives_sendable, left_sendable, message_short, none_sendable, sends_sendable, work_sendable}
+use Rattle.link_bench.proofs.CrashWalks.{crash_walk, remote_walk}
 use Rattle.crash_recover.proofs.KeptCrashes.{close_shut}
 use Rattle.core_laws.proofs.BenchMoves.{advanced, called, closed, enlisted, new_reached, reclaimed, reopened, reclaimable_is_shut}
 
@@ -70,34 +67,11 @@ gone_shut bench caller is = record {
   shut = same_era bench.rings (end_of (link_in bench).callers caller) caller is.shut;
 }
 
-fresh_shut : (bench : BenchState) (end : End) → Shut bench → Shut (with_fresh_caller bench end)
-fresh_shut bench end is = record { reached = enlisted bench end is.reached; shut = is.shut }
-
-remote_shut : (bench : BenchState) (caller : ℕ) → Shut bench → Shut (without_remote bench caller)
-remote_shut bench caller is =
-    let gone = gone_shut bench caller is in
-    cond_both (is_remote (end_of (link_in bench).callers caller))
-    (cond (eqb caller 1) (with_fresh_caller (after_reclaim bench caller) side.Remote) (after_reclaim bench caller)) bench Shut
-    (λ _. cond_both (eqb caller 1) (with_fresh_caller (after_reclaim bench caller) side.Remote) (after_reclaim bench caller) Shut
-    (λ _. fresh_shut (after_reclaim bench caller) side.Remote gone) (λ _. gone)) (λ _. is)
-
-one_shut : (bench : BenchState) (found : Option ℕ) → Shut bench → Shut (without_one bench found)
-one_shut bench None is = is
-one_shut bench (Some caller) is = remote_shut bench caller is
-
-other_shut : (first : Option ℕ) (bench : BenchState) (caller : ℕ) → Shut bench → Shut (without_other first bench caller)
-other_shut first bench caller is = cond_both (is_first first caller) bench (without_remote bench caller) Shut (λ _. is) (λ _. remote_shut bench caller is)
-
-others_shut : (first : Option ℕ) (bench : BenchState) (at count : ℕ) → Shut bench → Shut (without_others first bench at count)
-unfolding without_others
-others_shut first bench at zero is = is
-others_shut first bench at (suc left) is = others_shut first (without_other first bench at) (at + 1) left (other_shut first bench at is)
+fresh_shut : (bench : BenchState) → Shut bench → Shut (with_fresh_caller bench side.Remote)
+fresh_shut bench is = record { reached = enlisted bench side.Remote is.reached; shut = is.shut }
 
 pub crashed : (bench : BenchState) → IsReachedBench bench → IsReachedBench (crashed_bench bench)
-crashed bench reached =
-    let shut : Shut (after_close bench) = record { reached = closed bench reached; shut = close_shut bench.rings } in
-    let first = holder (link_in (after_close bench)).to_remote.receiver in
-    (others_shut first (without_one (after_close bench) first) 0 64 (one_shut (after_close bench) first shut)).reached
+crashed bench reached = (crash_walk Shut (remote_walk Shut gone_shut fresh_shut) bench (record { reached = closed bench reached; shut = close_shut bench.rings })).reached
 
 -- a core that may have no link
 map_reached : (found : Option BenchState) (f : BenchState → BenchState) → ((bench : BenchState) → IsReachedBench bench → IsReachedBench (f bench))
@@ -217,16 +191,6 @@ host_begun_sendable : (in_call : Bool) (actors : ActorsState) → AreSendable ac
 host_begun_sendable true actors are = are
 host_begun_sendable false actors are = record { host = are.host; worker = are.worker }
 
-host_step_reached : (core : CoreState) (found : Option BenchState) → IsReachedCore core → IfSome found IsReachedBench → IsReachedCore (host_step core found).core
-host_step_reached core None is reached = is
-host_step_reached core (Some bench) is reached =
-    let walk = link_step bench 0 (first_or_take core.actors.host_calls) in
-    let left = step_reached bench 0 (first_or_take core.actors.host_calls) reached (first_sendable core.actors.host_calls is.calls.host) in
-    record {
-      bench = left;
-      calls = host_sendable (host_at_step bench core.actors) walk.bench walk.reach left.link.short (host_begun_sendable (is_in_call bench 0) core.actors is.calls);
-    }
-
 worker_sendable : (actors : ActorsState) (bench : BenchState) (came : Reach) → AreSendable actors → AreSendable (worker_after_step actors bench came)
 worker_sendable actors bench (reach.At step) are = are
 worker_sendable actors bench (reach.Ended end) are = record {
@@ -236,50 +200,37 @@ worker_sendable actors bench (reach.Ended end) are = record {
 }
 worker_sendable actors bench reach.Limit are = record { host = are.host; worker = All-drop IsSendable 1 actors.worker_calls are.worker }
 
-call_reached : (core : CoreState) (found : Option BenchState) → IsReachedCore core → IfSome found IsReachedBench → IsReachedCore (worker_call core found).core
-call_reached core None is reached = is
-call_reached core (Some bench) is reached =
-    let walk = link_step bench 1 (first_or_take core.actors.worker_calls) in
-    record {
-      bench = step_reached bench 1 (first_or_take core.actors.worker_calls) reached (first_sendable core.actors.worker_calls is.calls.worker);
-      calls = worker_sendable core.actors walk.bench walk.reach is.calls;
-    }
-
-reported_reached : (event : Driven) (core : CoreState) → IsReachedCore core → IsReachedCore (core_with_report event core)
-reported_reached driven.Idle core is = is
-reported_reached driven.Stepped core is = is
-reported_reached (driven.Ended caller end) core is = is
-reported_reached (driven.Worker fault closed) core is = core_reported core is
-reported_reached (driven.Crashed kind closed) core is = core_reported core is
-
-run_reached : (core : CoreState) (loaded : Option LoadState) → IsReachedCore core → IsReachedCore (record_run core loaded).core
-run_reached core None is = is
-run_reached core (Some load) is =
-    let map = placed_map core.regions load in
-    record {
-      bench = is.bench;
-      calls = record {
-        host = is.calls.host;
-        worker = All-append IsSendable core.actors.worker_calls (wishes_of_work (work_of load.memory map (is_some core.bench) core.actors.worker)) is.calls.worker
-            (work_sendable load.memory map (is_some core.bench) core.actors.worker);
+-- what brought its link to where it is stays over each part of a step of the actors
+pub reached_parts : AreKeptParts IsReachedCore
+reached_parts = record {
+  turn = λ who core is. record { bench = is.bench; calls = record { host = is.calls.host; worker = is.calls.worker } };
+  host = λ core bench there is.
+      let wanted = first_or_take core.actors.host_calls in
+      let walk = link_step bench 0 wanted in
+      let left = step_reached bench 0 wanted (of_link IsReachedBench core bench there is.bench) (first_sendable core.actors.host_calls is.calls.host) in
+      record { bench = left; calls = host_sendable (host_at_step bench core.actors) walk.bench walk.reach left.link.short (host_begun_sendable (is_in_call bench 0) core.actors is.calls) };
+  call = λ core bench there is.
+      let wanted = first_or_take core.actors.worker_calls in
+      let walk = link_step bench 1 wanted in
+      record {
+        bench = step_reached bench 1 wanted (of_link IsReachedBench core bench there is.bench) (first_sendable core.actors.worker_calls is.calls.worker);
+        calls = worker_sendable core.actors walk.bench walk.reach is.calls;
       };
-    }
-
-worker_step_reached : (core : CoreState) → IsReachedCore core → IsReachedCore (worker_step core).core
-worker_step_reached core is =
-    cond_both (has_calls core.bench core.actors) (worker_call core core.bench) (record_step core) (λ (step : DriveStep). IsReachedCore step.core)
-    (λ _. call_reached core core.bench is is.bench)
-    (λ _. reported_reached (record_run core core.loaded).driven (record_run core core.loaded).core (run_reached core core.loaded is))
-
-actor_reached : (who : Actor) (core : CoreState) → IsReachedCore core → IsReachedCore (actor_step who core).core
-actor_reached actor.Host core is = host_step_reached core core.bench is is.bench
-actor_reached actor.Worker core is = worker_step_reached core is
+  run = λ core load there silent is.
+      let map = placed_map core.regions load in
+      record {
+        bench = is.bench;
+        calls = record {
+          host = is.calls.host;
+          worker = All-append IsSendable core.actors.worker_calls (wishes_of_work (work_of load.memory map (is_some core.bench) core.actors.worker)) is.calls.worker
+              (work_sendable load.memory map (is_some core.bench) core.actors.worker);
+        };
+      };
+  report = core_reported;
+}
 
 pub core_driven : (core : CoreState) → IsReachedCore core → IsReachedCore (drive_step core).core
-core_driven core is =
-    cond_both (is_idle core) _ _ (λ (step : DriveStep). IsReachedCore step.core) (λ _. is)
-    (λ _. actor_reached (actor_to_step core) (with_turn_after (actor_to_step core) core)
-    (record { bench = is.bench; calls = record { host = is.calls.host; worker = is.calls.worker } }))
+core_driven core is = drive_kept IsReachedCore reached_parts core is
 
 -- ---- calls of others
 

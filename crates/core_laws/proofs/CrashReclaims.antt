@@ -1,5 +1,5 @@
 -- No reclaim of a crash is refused.
-use Rattle.std.proofs.Common.{◌≡◌, ℕ, zero, suc, ◌+◌, eqb, cond, Bool, true, false, Option, Some, None, is_some, option_map, option_and_then, unwrap_or, refl, sym, ap, subst, ◌∙◌}
+use Rattle.std.proofs.Common.{◌≡◌, ℕ, cond, Bool, true, false, Option, Some, None, is_some, option_map, option_and_then, unwrap_or, refl, sym, ap, subst, ◌∙◌, arith}
 use Rattle.std.proofs.lemmas.Bool.{cond_both, eq-eqb, false≢true, true≢false}
 use Rattle.rp_base.specs.declared.kinds.End.{End}
 use Rattle.rp_base.specs.declared.kinds.End.TheVariants as side
@@ -8,38 +8,31 @@ use Rattle.lane_model.specs.declared.states.LaneState.{LaneState}
 use Rattle.lane_model.specs.declared.stages.Receiving.{Receiving}
 use Rattle.lane_model.specs.declared.stages.Turn.{Turn}
 use Rattle.lane_model.specs.declared.stages.Turn.TheVariants as turn
-use Rattle.lane_model.specs.Crashes.{ended_turn, has_held, needed_holder, other_holder}
-use Rattle.lane_model.specs.Forms.{list_form}
+use Rattle.lane_model.specs.Crashes.{has_held, needed_holder, other_holder}
 use Rattle.lane_model.specs.Lanes.{has_call, holder}
 use Rattle.lane_model.specs.Links.{LinkState, end_of, lanes_of}
 use Rattle.lane_laws.specs.Moves.{no_handings}
-use Rattle.lane_model.specs.Recoveries.{link_reclaim_refusal, without_caller}
+use Rattle.lane_model.specs.Recoveries.{link_reclaim_refusal}
 use Rattle.lane_model.specs.Soundness.{IsSoundTurn, SoundLink}
 use Rattle.lane_laws.proofs.CrashLaws.{close_sound}
 use Rattle.lane_laws.proofs.LinkRuns.{moves_sound}
 use Rattle.channel_bus.specs.Sides.{EndState, side_meaning}
-use Rattle.link_bench.specs.BenchCrashes.{after_close, after_reclaim}
+use Rattle.link_bench.specs.BenchCrashes.{after_close}
 use Rattle.core_laws.specs.BenchMoves.{IsReached}
 use Rattle.link_bench.specs.Benches.{BenchState, link_in}
-use Rattle.link_bench.specs.BenchEnds.{is_first, is_remote, with_fresh_caller, without_one, without_other, without_others, without_remote}
-use Rattle.link_bench.proofs.Lists.{close_lists, reclaim_lists}
+use Rattle.link_bench.specs.BenchEnds.{is_remote, without_one}
+use Rattle.link_bench.proofs.CrashWalks.{others_walk}
+use Rattle.link_bench.proofs.Lists.{close_lists}
+use Rattle.link_bench.proofs.RemoteEnds.{IsQuiet, end_quiet, free_other, other_quiet}
 use Rattle.crash_recover.specs.KeptCores.{IsUnmanaged, IsUnmanagedTurn}
 use Rattle.crash_recover.proofs.KeptCrashes.{close_leaves, close_shut, no_end}
 use Rattle.core_laws.specs.CrashCallers.{crash_reaches}
 
 -- ---- whose reclaim is refused
 
--- a link that is closed, and whose receiver's turn of the remote end nobody has
-record IsQuiet (link : LinkState EndState) : Type 0 where
-  pub shut : link.era.is_live ≡ false
-  pub free : holder link.to_remote.receiver ≡ None
-
 -- a turn that nobody else has isn't needed of another
 unneeded : (state : LaneState EndState) (caller : ℕ) → other_holder state.receiver caller ≡ None → needed_holder state caller ≡ None
 unneeded state caller none = cond_both (has_held state.lane.held caller) (other_holder state.receiver caller) None (λ (found : Option ℕ). found ≡ None) (λ _. none) (λ _. refl)
-
-free_other : (now : Turn Receiving) (caller : ℕ) → holder now ≡ None → other_holder now caller ≡ None
-free_other now caller none = cond_both (has_call now caller) None (holder now) (λ (found : Option ℕ). found ≡ None) (λ _. refl) (λ _. none)
 
 unrefused_at : (link : LinkState EndState) (live : Bool) (found : Option End) (caller : ℕ) → live ≡ false → found ≡ Some side.Remote → needed_holder link.to_remote caller ≡ None
     → cond live (Some (refusal.StillOpen link.era)) (option_map refusal.Busy (option_and_then (λ end. needed_holder (lanes_of link end).incoming caller) found)) ≡ None
@@ -51,49 +44,6 @@ unrefused_at link false None caller shut remote none = no_end side.Remote remote
 unrefused : (link : LinkState EndState) (caller : ℕ) → link.era.is_live ≡ false → end_of link.callers caller ≡ Some side.Remote → other_holder link.to_remote.receiver caller ≡ None
     → link_reclaim_refusal link caller ≡ None
 unrefused link caller shut remote none = unrefused_at link link.era.is_live (end_of link.callers caller) caller shut remote (unneeded link.to_remote caller none)
-
-ended_free : (now : Turn Receiving) (caller : ℕ) → holder now ≡ None → holder (ended_turn now caller) ≡ None
-ended_free now caller none = cond_both (has_call now caller) turn.Free now (λ (left : Turn Receiving). holder left ≡ None) (λ _. refl) (λ _. none)
-
-gone_quiet : (link : LinkState EndState) (found : Option End) (caller : ℕ) → IsQuiet link → IsQuiet (without_caller (list_form side_meaning) link found caller)
-gone_quiet link None caller is = is
-gone_quiet link (Some side.Host) caller is = record { shut = is.shut; free = is.free }
-gone_quiet link (Some side.Remote) caller is = record { shut = is.shut; free = ended_free link.to_remote.receiver caller is.free }
-
-remote_quiet : (bench : BenchState) (caller : ℕ) → IsQuiet (link_in bench) → IsQuiet (link_in (without_remote bench caller))
-remote_quiet bench caller is =
-    let gone = subst IsQuiet (sym (reclaim_lists bench caller)) (gone_quiet (link_in bench) (end_of (link_in bench).callers caller) caller is) in
-    cond_both (is_remote (end_of (link_in bench).callers caller))
-    (cond (eqb caller 1) (with_fresh_caller (after_reclaim bench caller) side.Remote) (after_reclaim bench caller)) bench (λ (left : BenchState). IsQuiet (link_in left))
-    (λ _. cond_both (eqb caller 1) (with_fresh_caller (after_reclaim bench caller) side.Remote) (after_reclaim bench caller) (λ (left : BenchState). IsQuiet (link_in left))
-    (λ _. record { shut = gone.shut; free = gone.free }) (λ _. gone)) (λ _. is)
-
-others_quiet : (first : Option ℕ) (bench : BenchState) (at count : ℕ) → IsQuiet (link_in bench) → IsQuiet (link_in (without_others first bench at count))
-unfolding without_others
-others_quiet first bench at zero is = is
-others_quiet first bench at (suc left) is =
-    others_quiet first (without_other first bench at) (at + 1) left
-    (cond_both (is_first first at) bench (without_remote bench at) (λ (left : BenchState). IsQuiet (link_in left)) (λ _. is) (λ _. remote_quiet bench at is))
-
--- who has the turn is of the remote end, and its reclaim frees the turn
-own_turn : (now : Turn Receiving) (caller : ℕ) → has_call now caller ≡ true → holder (ended_turn now caller) ≡ None
-own_turn now caller has = cond_both (has_call now caller) turn.Free now (λ (left : Turn Receiving). holder left ≡ None) (λ _. refl) (λ other. absurd (true≢false (sym has ∙ other)))
-
-mine_gone : (bench : BenchState) (found : Option End) (caller : ℕ) → found ≡ Some side.Remote → (link_in bench).era.is_live ≡ false → has_call (link_in bench).to_remote.receiver caller ≡ true
-    → IsQuiet (without_caller (list_form side_meaning) (link_in bench) found caller)
-mine_gone bench (Some side.Remote) caller remote shut has = record { shut = shut; free = own_turn (link_in bench).to_remote.receiver caller has }
-mine_gone bench (Some side.Host) caller remote shut has = absurd (false≢true (ap is_remote remote))
-mine_gone bench None caller remote shut has = no_end side.Remote remote
-
-mine_quiet : (bench : BenchState) (caller : ℕ) → (link_in bench).era.is_live ≡ false → end_of (link_in bench).callers caller ≡ Some side.Remote → has_call (link_in bench).to_remote.receiver caller ≡ true
-    → IsQuiet (link_in (without_remote bench caller))
-mine_quiet bench caller shut remote has =
-    let gone = subst IsQuiet (sym (reclaim_lists bench caller)) (mine_gone bench (end_of (link_in bench).callers caller) caller remote shut has) in
-    cond_both (is_remote (end_of (link_in bench).callers caller))
-    (cond (eqb caller 1) (with_fresh_caller (after_reclaim bench caller) side.Remote) (after_reclaim bench caller)) bench (λ (left : BenchState). IsQuiet (link_in left))
-    (λ _. cond_both (eqb caller 1) (with_fresh_caller (after_reclaim bench caller) side.Remote) (after_reclaim bench caller) (λ (left : BenchState). IsQuiet (link_in left))
-    (λ _. record { shut = gone.shut; free = gone.free }) (λ _. gone))
-    (λ other. absurd (true≢false (sym (ap is_remote remote) ∙ other)))
 
 -- who has the receiver's turn of the remote end
 record HasTurn (link : LinkState EndState) (caller : ℕ) : Type 0 where
@@ -138,10 +88,12 @@ module _ (bench : BenchState) (reached : IsReached (link_in bench)) (unmanaged :
 
   first_quiet : (first : Option ℕ) → holder (link_in (after_close bench)).to_remote.receiver ≡ first → IsQuiet (link_in (without_one (after_close bench) first))
   first_quiet None none = record { shut = close_shut bench.rings; free = none }
-  first_quiet (Some caller) held = let turn_of = closed_turn caller held in mine_quiet (after_close bench) caller (close_shut bench.rings) turn_of.user turn_of.has
+  first_quiet (Some caller) held =
+      let turn_of = closed_turn caller held in
+      end_quiet (after_close bench) caller (close_shut bench.rings) (own_other (link_in (after_close bench)).to_remote.receiver caller turn_of.has) (ap is_remote turn_of.user)
 
   pub other_unrefused : (caller : ℕ) → end_of (link_in (crash_reaches bench caller)).callers caller ≡ Some side.Remote → link_reclaim_refusal (link_in (crash_reaches bench caller)) caller ≡ None
   other_unrefused caller remote =
       let first = holder (link_in (after_close bench)).to_remote.receiver in
-      let quiet = others_quiet first (without_one (after_close bench) first) 0 caller (first_quiet first refl) in
+      let quiet = others_walk (λ at left. IsQuiet (link_in left)) first (λ at left is. other_quiet first left at is) caller (without_one (after_close bench) first) 0 caller (omega arith) (first_quiet first refl) in
       unrefused (link_in (crash_reaches bench caller)) caller quiet.shut remote (free_other (link_in (crash_reaches bench caller)).to_remote.receiver caller quiet.free)

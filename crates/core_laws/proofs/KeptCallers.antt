@@ -1,7 +1,8 @@
 -- Which callers of a core's link a crash leaves.
-use Rattle.std.proofs.Common.{◌≡◌, ◌≢◌, ◌⊎◌, ◌<◌, ℕ, zero, suc, ◌+◌, eqb, cond, Bool, true, false, List, Option, Some, None, slice_set, refl, sym, ap, subst, ◌∙◌, inl, inr, arith}
+use Rattle.std.proofs.Common.{◌≡◌, ◌≢◌, ◌⊎◌, ◌<◌, ℕ, ◌+◌, eqb, cond, Bool, true, false, List, Option, Some, None, slice_set, refl, sym, ap, subst, ◌∙◌, inl, inr, arith}
 use Rattle.std.proofs.lemmas.Bool.{cases_lt, cond_both, eqb-false, eqb-true, false≢true}
 use Rattle.std.proofs.lemmas.Bool.Decides.{eqb_tells}
+use Rattle.rp_base.specs.declared.limits.TheConstants.{CALLERS_MOST}
 use Rattle.rp_base.specs.declared.kinds.End.{End}
 use Rattle.rp_base.specs.declared.kinds.End.TheVariants as side
 use Rattle.lane_model.specs.Lanes.{holder}
@@ -10,7 +11,8 @@ use Rattle.lane_model.specs.Recoveries.{without_caller}
 use Rattle.lane_model.proofs.CrashMay.{freed}
 use Rattle.link_bench.specs.BenchCrashes.{after_close, after_reclaim}
 use Rattle.link_bench.specs.Benches.{BenchState, LinkRings, link_in, on_rings}
-use Rattle.link_bench.specs.BenchEnds.{crashed_bench, is_first, is_remote, with_fresh_caller, without_one, without_other, without_others, without_remote}
+use Rattle.link_bench.specs.BenchEnds.{crashed_bench, is_first, is_remote, with_fresh_caller, without_one, without_other, without_remote}
+use Rattle.link_bench.proofs.CrashWalks.{others_walk}
 use Rattle.crash_recover.specs.KeptCores.{AreOwnUsed}
 use Rattle.core_laws.specs.CrashCallers.{end_after_crash}
 use Rattle.crash_recover.proofs.KeptCrashes.{close_leaves, cleared, host_is_no_remote, is_remote_end, no_end, remote_again}
@@ -141,17 +143,11 @@ first_next first at before after is are = record {
   of_first = are.of_first;
 }
 
-module _ (first : Option ℕ) (before : List (Option End)) (total : ℕ) where
-  one_gone : (bench : BenchState) (at : ℕ) → AreGone first at before (link_in bench).callers → AreGone first (at + 1) before (link_in (without_other first bench at)).callers
-  one_gone bench at are =
-      cond_both (is_first first at) bench (without_remote bench at) (λ (left : BenchState). AreGone first (at + 1) before (link_in left).callers)
-      (λ is. first_next first at before (link_in bench).callers is are)
-      (λ _. subst (AreGone first (at + 1) before) (sym (without_callers bench at are.own)) (ended_next first at before (link_in bench).callers are))
-
-  all_gone : (bench : BenchState) (at count : ℕ) → at + count ≡ total → AreGone first at before (link_in bench).callers → AreGone first total before (link_in (without_others first bench at count)).callers
-  unfolding without_others
-  all_gone bench at zero sum are = subst (λ n. AreGone first n before (link_in bench).callers) (omega (arith, sum)) are
-  all_gone bench at (suc count) sum are = all_gone (without_other first bench at) (at + 1) count (omega (arith, sum)) (one_gone bench at are)
+one_gone : (first : Option ℕ) (before : List (Option End)) (at : ℕ) (bench : BenchState) → AreGone first at before (link_in bench).callers → AreGone first (at + 1) before (link_in (without_other first bench at)).callers
+one_gone first before at bench are =
+    cond_both (is_first first at) bench (without_remote bench at) (λ (left : BenchState). AreGone first (at + 1) before (link_in left).callers)
+    (λ is. first_next first at before (link_in bench).callers is are)
+    (λ _. subst (AreGone first (at + 1) before) (sym (without_callers bench at are.own)) (ended_next first at before (link_in bench).callers are))
 
 -- who is ended first is gone
 first_gone : (bench : BenchState) (first : Option ℕ) → AreOwnUsed (link_in bench).callers → AreGone first 0 (link_in bench).callers (link_in (without_one bench first)).callers
@@ -166,11 +162,12 @@ first_gone bench (Some gone) own =
     })
 
 -- the callers that a crash leaves
-pub crash_callers : (bench : BenchState) (caller : ℕ) → AreOwnUsed (link_in bench).callers → caller < 64
+pub crash_callers : (bench : BenchState) (caller : ℕ) → AreOwnUsed (link_in bench).callers → caller < CALLERS_MOST
     → end_of (link_in (crashed_bench bench)).callers caller ≡ end_after_crash caller (end_of (link_in bench).callers caller)
 crash_callers bench caller own less =
     let closed = close_leaves bench in
     let first = holder (link_in (after_close bench)).to_remote.receiver in
     let gone = first_gone (after_close bench) first (subst AreOwnUsed (sym closed.callers) own) in
-    let all = all_gone first (link_in (after_close bench)).callers 64 (without_one (after_close bench) first) 0 64 refl gone in
+    let callers = (link_in (after_close bench)).callers in
+    let all = others_walk (λ at left. AreGone first at callers (link_in left).callers) first (one_gone first callers) CALLERS_MOST (without_one (after_close bench) first) 0 CALLERS_MOST refl gone in
     all.below caller less ∙ ap (λ (callers : List (Option End)). end_after_crash caller (end_of callers caller)) closed.callers

@@ -4,6 +4,7 @@ pub mod CallMoves
 pub mod BenchMoves
 pub mod Handed
 pub mod Sendable
+pub mod DriveWalks
 pub mod CoreMoves
 pub mod CrashReclaims
 pub mod KeptCallers
@@ -18,4 +19,4 @@ pub mod SendableActs
 pub mod CoreActs
 pub mod Starts
 pub mod Beginnings
-pub mod ActMoves
+pub mod ClosedMoves

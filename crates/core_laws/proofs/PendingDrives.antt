@@ -1,5 +1,5 @@
 -- Steps of the actors of a core, and reports, leave calls that may begin.
-use Rattle.std.proofs.Common.{◌≡◌, ◌≢◌, ℕ, zero, suc, ◌+◌, eqb, cond, Bool, true, false, not, List, [], ◌∷◌, ◌++◌, length, Option, Some, None, IfSome, Result, Ok, Err, is_some, option_map, option_and_then, slice_get, slice_set, refl, sym, ap, subst, ◌∙◌, arith}
+use Rattle.std.proofs.Common.{◌≡◌, ◌≢◌, ℕ, zero, suc, eqb, cond, Bool, true, false, not, List, [], ◌∷◌, ◌++◌, length, Option, Some, None, IfSome, Result, Ok, Err, is_some, option_map, option_and_then, slice_get, slice_set, refl, sym, ap, subst, ◌∙◌, arith}
 use Rattle.std.proofs.lemmas.Bool.{cond_both, false≢true, or_parts, true≢false}
 use Rattle.rp_base.specs.declared.kinds.End.TheVariants as side
 use Rattle.addr_translate.specs.Maps.{Mapping}
@@ -14,30 +14,29 @@ use Rattle.remote_code.specs.declared.faults.WorkerFault.{WorkerFault}
 use Rattle.proc_state.specs.Lives.{CoreLife, is_up}
 use Rattle.lane_model.specs.declared.calls.Wish.{Wish}
 use Rattle.lane_model.specs.declared.states.LaneState.{LaneState}
-use Rattle.lane_model.specs.Lanes.{has_call, holder}
-use Rattle.lane_model.specs.Links.{Lanes, end_of, lanes_of}
+use Rattle.lane_model.specs.Lanes.{has_call}
+use Rattle.lane_model.specs.Links.{Lanes, lanes_of}
 use Rattle.channel_bus.specs.Sides.{EndState}
-use Rattle.core_actors.specs.declared.actors.Actor.{Actor}
-use Rattle.core_actors.specs.declared.actors.Actor.TheVariants as actor
 use Rattle.link_bench.specs.declared.benches.BegunCall.{BegunCall}
 use Rattle.link_bench.specs.declared.benches.Reach.{Reach}
 use Rattle.link_bench.specs.declared.benches.Reach.TheVariants as reach
-use Rattle.core_actors.specs.declared.progress.Driven.{Driven}
-use Rattle.core_actors.specs.declared.progress.Driven.TheVariants as driven
 use Rattle.core_actors.specs.Actors.{ActorsState}
-use Rattle.link_bench.specs.BenchCrashes.{after_close, after_reclaim}
+use Rattle.link_bench.specs.BenchCrashes.{after_reclaim}
 use Rattle.core_laws.specs.BenchMoves.{AreSendable, IsReachedBench, IsReachedCore}
 use Rattle.link_bench.specs.Benches.{BenchState, BenchWalk, advance_steps, advance_walk, begin_fault, begun_call_of, is_in_call, link_in, start_walk}
-use Rattle.link_bench.specs.BenchEnds.{crashed_bench, is_first, is_remote, with_fresh_caller, without_one, without_other, without_others, without_remote}
+use Rattle.link_bench.specs.BenchEnds.{crashed_bench}
 use Rattle.crash_recover.specs.CoreCrashes.{after_report, crashed_core}
-use Rattle.crash_recover.specs.Cores.{CoreState, LoadState, IsKeptCore}
+use Rattle.crash_recover.specs.Cores.{CoreState, IsKeptCore}
 use Rattle.core_actors.specs.ActorEnds.{calls_after_end, end_answer, gives_of, message_of, sends_of, taken_number}
 use Rattle.core_actors.specs.ActorSteps.{actors_after_record, first_or_take, has_calls, host_after_step, host_at_step, host_at_step_as, link_step, wishes_of_work, worker_after_step}
-use Rattle.crash_recover.specs.Drives.{DriveStep, actor_step, actor_to_step, core_with_report, drive_step, host_step, is_idle, placed_map, record_run, record_step, with_turn_after, worker_call, worker_step}
+use Rattle.crash_recover.specs.Drives.{drive_step, host_step, placed_map, with_turn_after, worker_call}
 use Rattle.crash_recover.specs.KeptCores.{AreOwnUsed, IsKeptBench}
 use Rattle.core_laws.specs.PendingCalls.{AreFitLanes, AreGivable, HasNoneBegun, IsReadyBench, IsReadyCore, given_by}
 use Rattle.link_bench.proofs.Begun.{begin_may}
-use Rattle.core_laws.proofs.CoreMoves.{first_sendable}
+use Rattle.link_bench.proofs.CrashWalks.{crash_walk, remote_walk}
+use Rattle.core_laws.proofs.CoreMoves.{first_sendable, reached_parts}
+use Rattle.core_laws.proofs.DriveWalks.{AreKeptParts, drive_kept, of_link}
+use Rattle.core_laws.proofs.KeptCores.{kept_parts}
 use Rattle.crash_recover.proofs.SameLives.{IsStopped}
 use Rattle.core_laws.proofs.Outcomes.{report_left}
 use Rattle.core_laws.proofs.CrashReclaims.{reached_sound}
@@ -166,10 +165,9 @@ link_begun bench caller wanted none is =
     (λ _. cond_both (is_some (begin_fault bench caller wanted)) refused (start_walk bench 0 caller wanted) (λ (walk : BenchWalk). HasNoneBegun walk.bench)
     (λ _. is) (λ _. record { host = is.host; worker = is.worker }))
 
-host_ready : (core : CoreState) (found : Option BenchState) → IsReadyCore core → AreSendable core.actors → IfSome found IsReachedBench → IfSome found (IsKeptBench core.life)
-    → IfSome found HasNoneBegun → (is_up core.life.state ≡ true → IfSome found (IsReadyBench core.actors)) → IsReadyCore (host_step core found).core
-host_ready core None is sendable reached kept begun ready = is
-host_ready core (Some bench) is sendable reached kept begun ready =
+host_ready : (core : CoreState) (bench : BenchState) → AreSendable core.actors → IsReachedBench bench → IsKeptBench core.life bench → HasNoneBegun bench
+    → (is_up core.life.state ≡ true → IsReadyBench core.actors bench) → IsReadyCore (host_step core (Some bench)).core
+host_ready core bench sendable reached kept begun ready =
     let walk = link_step bench 0 (first_or_take core.actors.host_calls) in
     record {
       begun = link_begun bench 0 (first_or_take core.actors.host_calls) begun.host begun;
@@ -179,10 +177,9 @@ host_ready core (Some bench) is sendable reached kept begun ready =
       };
     }
 
-worker_ready : (core : CoreState) (found : Option BenchState) → IsReadyCore core → AreSendable core.actors → IfSome found IsReachedBench → IfSome found (IsKeptBench core.life)
-    → IfSome found HasNoneBegun → (is_up core.life.state ≡ true → IfSome found (IsReadyBench core.actors)) → IsReadyCore (worker_call core found).core
-worker_ready core None is sendable reached kept begun ready = is
-worker_ready core (Some bench) is sendable reached kept begun ready =
+worker_ready : (core : CoreState) (bench : BenchState) → AreSendable core.actors → IsReachedBench bench → IsKeptBench core.life bench → HasNoneBegun bench
+    → (is_up core.life.state ≡ true → IsReadyBench core.actors bench) → IsReadyCore (worker_call core (Some bench)).core
+worker_ready core bench sendable reached kept begun ready =
     let walk = link_step bench 1 (first_or_take core.actors.worker_calls) in
     record {
       begun = link_begun bench 1 (first_or_take core.actors.worker_calls) begun.worker begun;
@@ -241,13 +238,6 @@ found_record actors memory map linked life None none kept ready = tt
 found_record actors memory map linked life (Some bench) none kept ready =
     record_bench actors memory map linked bench kept.own (or_parts (is_in_call bench 1) _ none).0 ready
 
-run_ready : (core : CoreState) (loaded : Option LoadState) → has_calls core.bench core.actors ≡ false → IsKeptCore core → IsReadyCore core → IsReadyCore (record_run core loaded).core
-run_ready core None none kept is = is
-run_ready core (Some load) none kept is = record {
-  begun = is.begun;
-  calls = λ running. found_record core.actors load.memory (placed_map core.regions load) (is_some core.bench) core.life core.bench none kept (is.calls running);
-}
-
 -- ---- a report
 
 pub cleared_begun : (begun : List (Option BegunCall)) (gone caller : ℕ) → option_and_then (λ found. found) (slice_get begun caller) ≡ None
@@ -261,29 +251,9 @@ cleared_begun (found ∷ begun) (suc gone) (suc caller) none = cleared_begun beg
 pub reclaim_begun : (bench : BenchState) (gone : ℕ) → HasNoneBegun bench → HasNoneBegun (after_reclaim bench gone)
 reclaim_begun bench gone is = record { host = cleared_begun bench.begun gone 0 is.host; worker = cleared_begun bench.begun gone 1 is.worker }
 
-remote_begun : (bench : BenchState) (caller : ℕ) → HasNoneBegun bench → HasNoneBegun (without_remote bench caller)
-remote_begun bench caller is =
-    let gone = reclaim_begun bench caller is in
-    cond_both (is_remote (end_of (link_in bench).callers caller))
-    (cond (eqb caller 1) (with_fresh_caller (after_reclaim bench caller) side.Remote) (after_reclaim bench caller)) bench HasNoneBegun
-    (λ _. cond_both (eqb caller 1) (with_fresh_caller (after_reclaim bench caller) side.Remote) (after_reclaim bench caller) HasNoneBegun
-    (λ _. record { host = gone.host; worker = gone.worker }) (λ _. gone)) (λ _. is)
-
-one_begun : (bench : BenchState) (found : Option ℕ) → HasNoneBegun bench → HasNoneBegun (without_one bench found)
-one_begun bench None is = is
-one_begun bench (Some caller) is = remote_begun bench caller is
-
-others_begun : (first : Option ℕ) (bench : BenchState) (at count : ℕ) → HasNoneBegun bench → HasNoneBegun (without_others first bench at count)
-unfolding without_others
-others_begun first bench at zero is = is
-others_begun first bench at (suc left) is =
-    others_begun first (without_other first bench at) (at + 1) left
-    (cond_both (is_first first at) bench (without_remote bench at) HasNoneBegun (λ _. is) (λ _. remote_begun bench at is))
-
 crash_begun : (bench : BenchState) → HasNoneBegun bench → HasNoneBegun (crashed_bench bench)
 crash_begun bench is =
-    let first = holder (link_in (after_close bench)).to_remote.receiver in
-    others_begun first (without_one (after_close bench) first) 0 64 (one_begun (after_close bench) first (record { host = is.host; worker = is.worker }))
+    crash_walk HasNoneBegun (remote_walk HasNoneBegun reclaim_begun (λ left gone. record { host = gone.host; worker = gone.worker })) bench (record { host = is.host; worker = is.worker })
 
 pub map_begun : (found : Option BenchState) (f : BenchState → BenchState) → ((bench : BenchState) → HasNoneBegun bench → HasNoneBegun (f bench)) → IfSome found HasNoneBegun
     → IfSome (option_map f found) HasNoneBegun
@@ -300,36 +270,51 @@ crashed_ready core life stops is = record {
 pub report_ready : (core : CoreState) → IsReadyCore core → IsReadyCore (after_report core)
 report_ready core is = report_left IsReadyCore true core is (λ life stops. crashed_ready core life stops is)
 
-event_ready : (event : Driven) (core : CoreState) → IsReadyCore core → IsReadyCore (core_with_report event core)
-event_ready driven.Idle core is = is
-event_ready driven.Stepped core is = is
-event_ready (driven.Ended caller end) core is = is
-event_ready (driven.Worker fault closed) core is = report_ready core is
-event_ready (driven.Crashed kind closed) core is = report_ready core is
-
 -- ---- a drive's step
-
-worker_step_ready : (core : CoreState) → IsReachedCore core → IsKeptCore core → IsReadyCore core → IsReadyCore (worker_step core).core
-worker_step_ready core reached kept is =
-    cond_both (has_calls core.bench core.actors) (worker_call core core.bench) (record_step core) (λ (step : DriveStep). IsReadyCore step.core)
-    (λ _. worker_ready core core.bench is reached.calls reached.bench kept is.begun is.calls)
-    (λ none. event_ready (record_run core core.loaded).driven (record_run core core.loaded).core (run_ready core core.loaded none kept is))
-
-actor_ready : (who : Actor) (core : CoreState) → IsReachedCore core → IsKeptCore core → IsReadyCore core → IsReadyCore (actor_step who core).core
-actor_ready actor.Host core reached kept is = host_ready core core.bench is reached.calls reached.bench kept is.begun is.calls
-actor_ready actor.Worker core reached kept is = worker_step_ready core reached kept is
 
 map_ready : (before after : ActorsState) (found : Option BenchState) → ((bench : BenchState) → IsReadyBench before bench → IsReadyBench after bench) → IfSome found (IsReadyBench before)
     → IfSome found (IsReadyBench after)
 map_ready before after None each is = tt
 map_ready before after (Some bench) each is = each bench is
 
+-- a core that is ready, with what that stands on
+record StandsReady (core : CoreState) : Type 0 where
+  pub reached : IsReachedCore core
+  pub kept : IsKeptCore core
+  pub ready : IsReadyCore core
+
+ready_parts : AreKeptParts StandsReady
+ready_parts = record {
+  turn = λ who core is. record {
+    reached = reached_parts.turn who core is.reached;
+    kept = kept_parts.turn who core is.kept;
+    ready = record {
+      begun = is.ready.begun;
+      calls = λ running. map_ready core.actors (with_turn_after who core).actors core.bench (λ bench one. record { host = one.host; worker = one.worker }) (is.ready.calls running);
+    };
+  };
+  host = λ core bench there is. record {
+    reached = reached_parts.host core bench there is.reached;
+    kept = kept_parts.host core bench there is.kept;
+    ready = host_ready core bench is.reached.calls (of_link IsReachedBench core bench there is.reached.bench) (of_link (IsKeptBench core.life) core bench there is.kept)
+        (of_link HasNoneBegun core bench there is.ready.begun) (λ running. of_link (IsReadyBench core.actors) core bench there (is.ready.calls running));
+  };
+  call = λ core bench there is. record {
+    reached = reached_parts.call core bench there is.reached;
+    kept = kept_parts.call core bench there is.kept;
+    ready = worker_ready core bench is.reached.calls (of_link IsReachedBench core bench there is.reached.bench) (of_link (IsKeptBench core.life) core bench there is.kept)
+        (of_link HasNoneBegun core bench there is.ready.begun) (λ running. of_link (IsReadyBench core.actors) core bench there (is.ready.calls running));
+  };
+  run = λ core load there silent is. record {
+    reached = reached_parts.run core load there silent is.reached;
+    kept = kept_parts.run core load there silent is.kept;
+    ready = record {
+      begun = is.ready.begun;
+      calls = λ running. found_record core.actors load.memory (placed_map core.regions load) (is_some core.bench) core.life core.bench silent is.kept (is.ready.calls running);
+    };
+  };
+  report = λ core is. record { reached = reached_parts.report core is.reached; kept = kept_parts.report core is.kept; ready = report_ready core is.ready };
+}
+
 pub drive_ready : (core : CoreState) → IsReachedCore core → IsKeptCore core → IsReadyCore core → IsReadyCore (drive_step core).core
-drive_ready core reached kept is =
-    let who = actor_to_step core in
-    cond_both (is_idle core) _ _ (λ (step : DriveStep). IsReadyCore step.core) (λ _. is)
-    (λ _. actor_ready who (with_turn_after who core) (record { bench = reached.bench; calls = record { host = reached.calls.host; worker = reached.calls.worker } }) kept
-    (record {
-      begun = is.begun;
-      calls = λ running. map_ready core.actors (with_turn_after who core).actors core.bench (λ bench one. record { host = one.host; worker = one.worker }) (is.calls running);
-    }))
+drive_ready core reached kept is = (drive_kept StandsReady ready_parts core (record { reached = reached; kept = kept; ready = is })).ready

@@ -1,6 +1,6 @@
 //! Laws of the links of benches and of cores. Each is the contract of an empty function, and speaks of definitions alone.
 
-ghost use Rattle.std.specs.Prelude.{◌≡◌, ◌≢◌, ◌↔◌, ◌<◌, ℕ, Bool, false, true, List, None, Some, IfSome, Ok};
+ghost use Rattle.std.specs.Prelude.{◌≡◌, ◌≢◌, ◌↔◌, ◌<◌, ◌+◌, ℕ, Bool, false, true, List, None, Some, IfSome, Ok};
 ghost use Rattle.rp_base.specs.declared.limits.TheConstants.{CALLERS_MOST};
 ghost use Rattle.rp_base.specs.declared.kinds.End.{End};
 ghost use Rattle.lane_model.specs.declared.calls.LinkConfig.{LinkConfig};
@@ -25,7 +25,6 @@ ghost use Rattle.crash_recover.specs.CoreLeaves.{detach_of, shutdown_of};
 ghost use Rattle.crash_recover.specs.CoreRecoveries.{core_to_reopen, recovery_fault, recovery_of, reopen_fault, reopened_core, with_next_life};
 ghost use Rattle.crash_recover.specs.Cores.{CoreState, new_core, IsKeptCore};
 ghost use Rattle.crash_recover.specs.CoreActs.{core_act};
-ghost use Rattle.core_actors.specs.ActorEnds.{actors_after_end};
 ghost use Rattle.core_actors.specs.ActorSteps.{first_or_take};
 ghost use Rattle.crash_recover.specs.Drives.{drive_step};
 ghost use Rattle.core_laws.specs.BenchMoves.{ComesBy, IsReached, IsReachedBench, IsReachedCore, WasBoundOnTheWay, history_of};
@@ -35,8 +34,7 @@ ghost use Rattle.core_laws.specs.PendingCalls.{HasNoneBegun, IsReadyBench, IsRea
 ghost use Rattle.proc_state.specs.Lives.{CoreLife, most};
 ghost use Rattle.rp_base.specs.declared.kinds.LifeState.TheVariants as state;
 ghost use Rattle.core_laws.specs.FoundImages.{FindsLoadable};
-ghost use Rattle.core_laws.specs.ClosedLinks.{StaysClosed};
-ghost use Rattle.core_laws.specs.Beginnings.{BeginsEmpty, begins_life};
+ghost use Rattle.core_laws.specs.Beginnings.{BeginsEmpty, BeginsLife, ReopensNext, begins_life};
 ghost use Rattle.crash_recover.specs.declared.core_answers.Start.{Start};
 ghost use Rattle.rp_base.specs.declared.kinds.End.TheVariants as side;
 ghost use Rattle.host_driver.specs.Drivers.{Declared};
@@ -77,19 +75,6 @@ pub fn bench_reached()
     ensures end_caller { (bench : BenchState) (caller : ℕ) → IsReachedBench bench → (link_in bench).era.is_live ≡ false
         → IsReachedBench (after_reclaim bench caller) }
     ensures reopen { (bench : BenchState) → IsReachedBench bench → link_reopen_refusal (link_in bench) ≡ None → IsReachedBench (after_reopen bench) }
-{}
-
-/// What an act for callers does to a link, as a command of a script asks it, are moves of the link, one after the other. So in a closed incarnation no act
-/// hands anything over, and none opens it again.
-pub fn acts_are_moves()
-    ensures moves { (own : ℕ) (bench : BenchState) (steps : ℕ) (act : LinkAct (List ℕ)) → IsFitAct act → IsReachedBench bench
-        → ComesBy side_meaning (link_in bench) (link_in (link_act nobody_sees own bench (tt {0}) steps act).bench) }
-    ensures of_core { (own : ℕ) (bench : BenchState) (actors : ActorsState) (steps : ℕ) (act : LinkAct (List ℕ)) → IsFitAct act → IsReachedBench bench
-        → ComesBy side_meaning (link_in bench) (link_in (link_act actors_after_end own bench actors steps act).bench) }
-    ensures closed { (own : ℕ) (bench : BenchState) (steps : ℕ) (act : LinkAct (List ℕ)) → IsFitAct act → IsReachedBench bench → (link_in bench).era.is_live ≡ false
-        → StaysClosed (link_in bench) (link_in (link_act nobody_sees own bench (tt {0}) steps act).bench) }
-    ensures closed_of_core { (own : ℕ) (bench : BenchState) (actors : ActorsState) (steps : ℕ) (act : LinkAct (List ℕ)) → IsFitAct act → IsReachedBench bench
-        → (link_in bench).era.is_live ≡ false → StaysClosed (link_in bench) (link_in (link_act actors_after_end own bench actors steps act).bench) }
 {}
 
 /// The link of a core comes so too, from its boot to its last shutdown or detach, over crashes and recoveries, over each step of its actors, whose
@@ -147,13 +132,20 @@ pub fn starts_just_where()
         → ((boot_of core name found).core.life.state ≡ state.Attached) ↔ (core.life.incarnation ≢ most) }
 {}
 
-/// Where a life of a core begins, by a boot, an attach or a recovery, its link is live and empty on both lanes: what is handed over in a life was accepted
-/// in it.
+/// A link that is reopened is live and empty on both lanes in its next incarnation: what is handed over in an incarnation was accepted in it.
+pub fn reopens_next()
+    ensures { (bench : BenchState) → BeginsEmpty ((link_in bench).era.inc + 1) (after_reopen bench) }
+{}
+
+/// Where a life of a core begins, by a boot, an attach or a recovery, the life is in its next incarnation, and so is the link, live and empty on both
+/// lanes: what is handed over in a life was accepted in it. A recovery leaves a link exactly where there was one, in the incarnation behind that one's.
 pub fn lives_begin_empty()
     ensures boot { (core : CoreState) (name : List ℕ) (found : Found) (did : Start) → begins_life did ≡ true → (boot_of core name found).answer ≡ Ok did
-        → IfSome (boot_of core name found).core.bench BeginsEmpty }
-    ensures recovery { (core : CoreState) (found : Found) (did : Start) → begins_life did ≡ true → (recovery_of core found).answer ≡ Ok did
-        → IfSome (recovery_of core found).core.bench BeginsEmpty }
+        → BeginsLife (core.life.incarnation + 1) (boot_of core name found).core }
+    ensures recovery { (core : CoreState) (found : Found) (did : Start) → IsKeptCore core → begins_life did ≡ true → (recovery_of core found).answer ≡ Ok did
+        → BeginsLife (core.life.incarnation + 1) (recovery_of core found).core }
+    ensures reopening { (core : CoreState) (found : Found) (did : Start) → begins_life did ≡ true → (recovery_of core found).answer ≡ Ok did
+        → ReopensNext core.bench (recovery_of core found).core.bench }
 {}
 
 /// The link of a core always has the core's own callers in use, 0 at the host and 1 at the remote, no turn of it is ever the manager's, and it is in

@@ -24,7 +24,7 @@ use Rattle.link_bench.specs.declared.benches.Reach.{Reach}
 use Rattle.link_bench.specs.declared.benches.Reach.TheVariants as reach
 use Rattle.link_bench.specs.declared.turns.TurnEnd.{TurnEnd}
 use Rattle.link_bench.specs.Benches.{BenchState, advance_fault, advance_walk, begin_fault, call_walk, is_in_call, link_in, ready_fault, step_fault, used_fault, wish_fault, with_begun, with_new_caller}
-use Rattle.link_bench.specs.Turns.{Pumped, TurnCall, Turns, give_turn, is_whole, one_turn, pump_turns, take_turn, tested_call, then_more, turn_call, turn_message}
+use Rattle.link_bench.specs.Turns.{Pumped, TurnCall, Turns, give_turn, is_whole, one_turn, pump_turns, take_turn, call_unless, then_more, turn_call, turn_message}
 use Rattle.link_bench.specs.Acts.{Acted, call_act, caller_act, first_refusal, free_act, link_act, made_call, misfit, own_caller, own_in, pump_act, pump_refusal, step_act, unless_own, unless_refused, wish_of}
 use Rattle.link_bench.specs.Watchers.{Seeing, watcher_after}
 
@@ -145,7 +145,7 @@ module _ {W : Type 0} (sees : Seeing W) (own : ℕ) (Fits : Wish → Type 0) (P 
   LeaveTurns turns = P turns.bench turns.watcher
 
   tested_kept : (bench : BenchState) (watcher : W) (steps caller : ℕ) (wanted : Wish) (why : Option BenchFault) → begin_fault bench caller wanted ≡ why → own ≤ caller → Fits wanted
-      → P bench watcher → P (tested_call bench steps caller wanted why).bench watcher
+      → P bench watcher → P (call_unless bench steps caller wanted why).bench watcher
   tested_kept bench watcher steps caller wanted (Some why) found other fit is = is
   tested_kept bench watcher steps caller wanted None ready other fit is = keep.called bench watcher steps caller wanted other ready fit is
 

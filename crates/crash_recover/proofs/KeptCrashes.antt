@@ -1,5 +1,5 @@
 -- A crash and a renewal of the host's caller keep what a core's link keeps.
-use Rattle.std.proofs.Common.{◌≡◌, ◌≢◌, ℕ, zero, suc, ◌+◌, eqb, cond, Bool, true, false, ◌&&◌, List, [], ◌∷◌, Option, Some, None, is_some, length, slice_set, refl, sym, ap, subst, ◌∙◌, inl, inr, arith}
+use Rattle.std.proofs.Common.{◌≡◌, ◌≢◌, ℕ, zero, suc, eqb, cond, Bool, true, false, ◌&&◌, List, [], ◌∷◌, Option, Some, None, is_some, length, slice_set, refl, sym, ap, subst, ◌∙◌, inl, inr, arith}
 use Rattle.std.proofs.lemmas.Bool.{cond_both, lt-ltb, false≢true, true≢false}
 use Rattle.std.proofs.lemmas.Bool.Decides.{eqb_tells}
 use Rattle.rp_base.specs.declared.kinds.End.{End}
@@ -9,14 +9,15 @@ use Rattle.lane_model.specs.declared.stages.Turn.{Turn}
 use Rattle.lane_model.specs.declared.stages.Turn.TheVariants as turn
 use Rattle.lane_model.specs.Crashes.{ended_turn}
 use Rattle.lane_model.specs.Forms.{list_form}
-use Rattle.lane_model.specs.Lanes.{has_call, holder, is_live_in}
+use Rattle.lane_model.specs.Lanes.{has_call, is_live_in}
 use Rattle.lane_model.specs.Links.{LinkState, end_of, free_number, with_caller}
 use Rattle.lane_model.specs.Recoveries.{link_after_close, without_caller}
 use Rattle.lane_model.proofs.CrashMay.{freed}
 use Rattle.channel_bus.specs.Sides.{EndState, side_meaning}
 use Rattle.link_bench.specs.BenchCrashes.{after_close, after_reclaim}
 use Rattle.link_bench.specs.Benches.{BenchState, LinkRings, link_in}
-use Rattle.link_bench.specs.BenchEnds.{crashed_bench, is_first, is_remote, with_fresh_caller, without_one, without_other, without_others, without_remote}
+use Rattle.link_bench.specs.BenchEnds.{crashed_bench, is_remote, with_fresh_caller, without_remote}
+use Rattle.link_bench.proofs.CrashWalks.{crash_walk}
 use Rattle.link_bench.proofs.Lists.{close_lists, reclaim_lists}
 use Rattle.crash_recover.specs.KeptCores.{AreOwnUsed, IsKeptBench, IsKeptLink, IsUnmanaged, IsUnmanagedTurn}
 
@@ -152,20 +153,6 @@ module _ (life : CoreLife) where
             (gone_kept bench caller (host_is_no_remote (link_in bench).callers caller is.own remote) other.1 is)
       ]) (λ _. is)
 
-  one_kept : (bench : BenchState) (found : Option ℕ) → IsKeptBench life bench → IsKeptBench life (without_one bench found)
-  one_kept bench None is = is
-  one_kept bench (Some caller) is = remote_kept bench caller is
-
-  others_kept : (first : Option ℕ) (bench : BenchState) (at count : ℕ) → IsKeptBench life bench → IsKeptBench life (without_others first bench at count)
-  unfolding without_others
-  others_kept first bench at zero is = is
-  others_kept first bench at (suc left) is =
-      others_kept first (without_other first bench at) (at + 1) left
-      (cond_both (is_first first at) bench (without_remote bench at) (IsKeptBench life) (λ _. is) (λ _. remote_kept bench at is))
-
-  pub remotes_kept : (bench : BenchState) (first : Option ℕ) → IsKeptBench life bench → IsKeptBench life (without_others first (without_one bench first) 0 64)
-  remotes_kept bench first is = others_kept first (without_one bench first) 0 64 (one_kept bench first is)
-
 -- ---- the close of a crash
 
 -- an era that is closed as to its own incarnation is closed
@@ -197,7 +184,7 @@ pub crash_kept : (before after : CoreLife) (bench : BenchState) → after.incarn
     → IsKeptBench before bench → IsKeptBench after (crashed_bench bench)
 crash_kept before after bench same stopped is =
     let closed = close_leaves bench in
-    remotes_kept after (after_close bench) (holder (link_in (after_close bench)).to_remote.receiver) (record {
+    crash_walk (IsKeptBench after) (remote_kept after) bench (record {
       unmanaged = closed.unmanaged is.unmanaged;
       own = subst AreOwnUsed (sym closed.callers) is.own;
       inc = closed.inc ∙ is.inc ∙ sym same;

@@ -55,13 +55,13 @@ use Rattle.link_commands.specs.declared.acts.StartAct.TheVariants as start_act
 use Rattle.link_commands.specs.declared.acts.Making.TheVariants as making
 use Rattle.link_commands.specs.declared.acts.NamedAct.{NamedAct}
 use Rattle.link_commands.specs.declared.acts.NamedAct.TheVariants as under
-use Rattle.command_run.specs.CoreCommands.{core_act_effect, core_effect, declared_effect, driver_effect}
-use Rattle.command_run.specs.CoreDrives.{step_events, told_before}
+use Rattle.command_run.specs.CoreCommands.{core_act_effect, core_effect, driver_effect_unless, driver_effect}
+use Rattle.command_run.specs.CoreDrives.{step_events, with_earlier}
 use Rattle.link_commands.specs.LinkCommands.{link_effect}
 use Rattle.link_commands.specs.NamedLinks.{NamedLink}
 use Rattle.command_run.specs.Stores.{store_of}
 use Rattle.script_run.specs.Demos.{bare_effect}
-use Rattle.command_run.specs.Runs.{ObjectsState, Run, RunEffect, RunState, core_located_effect, core_made_effect, core_place, effect_of, found_core_effect, found_effect, has_image, image_effect, is_full, located_effect, name_effect, new_run, place_of, quiet_effect, run_from, run_of, run_tells, unnamed_effect, with_image, without_link_effect}
+use Rattle.command_run.specs.Runs.{ObjectsState, Run, RunEffect, RunState, effect_by_core_place, core_made_effect, core_place, effect_of, effect_of_core, effect_of_link, has_image, image_effect, is_full, effect_by_link_place, name_effect, new_run, place_of, quiet_effect, run_from, run_of, run_tells, unnamed_effect, with_image, without_link_effect}
 use Rattle.script_run.proofs.DemoSums.{bare_is, goes_on as goes_on_run, script_runnable}
 use Rattle.command_run.proofs.RunSteps.{run_none}
 use Rattle.run_laws.proofs.RunWalks.{item_at}
@@ -166,14 +166,14 @@ module _ (Fits : WorkerState → Type 0) (records credit : WorkerState → ℕ) 
   after_step : (more : ℕ) (name : List ℕ) (is_quiet : Bool) (next : CoreState) (events : List Event) (steps within : ℕ) (core : CoreState) → steps + within ≤ STEPS_MOST → 1 ≤ within → next.regions ≡ standard_regions
       → ((next.life.state ≡ Crashed) ⊎ ((next.life.state ≡ Running) × DrivesWithin next (within - 1)))
       → (next.life.state ≡ Running → DrivesWithin next (within - 1) → steps + 1 + (within - 1) ≤ STEPS_MOST → LeavesCalm (steps + 1) (within - 1) (drive_steps more name is_quiet next (steps + 1)))
-      → LeavesCalm steps within (cond (steps == STEPS_MOST) (core_stops core steps) (told_before events (drive_steps more name is_quiet next (steps + 1))))
+      → LeavesCalm steps within (cond (steps == STEPS_MOST) (core_stops core steps) (with_earlier events (drive_steps more name is_quiet next (steps + 1))))
   after_step more name is_quiet next events steps within core few some same came later =
-      cond_both (steps == STEPS_MOST) (core_stops core steps) (told_before events (drive_steps more name is_quiet next (steps + 1))) (LeavesCalm steps within)
+      cond_both (steps == STEPS_MOST) (core_stops core steps) (with_earlier events (drive_steps more name is_quiet next (steps + 1))) (LeavesCalm steps within)
       (λ full. absurd (omega (arith, few, some, eqb-true steps STEPS_MOST full)))
       (λ _. then_rests came)
     where
       then_rests : ((next.life.state ≡ Crashed) ⊎ ((next.life.state ≡ Running) × DrivesWithin next (within - 1)))
-          → LeavesCalm steps within (told_before events (drive_steps more name is_quiet next (steps + 1)))
+          → LeavesCalm steps within (with_earlier events (drive_steps more name is_quiet next (steps + 1)))
       then_rests (inl crashed) =
           let left = crashed_rests more name is_quiet next (steps + 1) same crashed in
           record { calm = left.calm; ending = left.ending; steps = omega (arith, left.steps, some) }
@@ -370,7 +370,7 @@ module _ (Fits : WorkerState → Type 0) (records credit : WorkerState → ℕ) 
     offline_at state why none running =
         absurd (true≢false (ap is_some (sym (ap (λ (s : LifeState). cond (is_offline s) why (Some add.NotOffline)) running) ∙ none)))
 
-    declared_at : (channel : List ℕ) (kind : DriverKind) (why : Option AddFault) → driver_add_fault core channel ≡ why → LeavesCalm steps 0 (declared_effect name core steps channel kind why)
+    declared_at : (channel : List ℕ) (kind : DriverKind) (why : Option AddFault) → driver_add_fault core channel ≡ why → LeavesCalm steps 0 (driver_effect_unless name core steps channel kind why)
     declared_at channel kind None clear = record {
       calm = record { regions = is.regions; own = is.own; runs = λ running. absurd (offline_at core.life.state _ clear running) };
       ending = refl;
@@ -403,7 +403,7 @@ module _ (Fits : WorkerState → Type 0) (records credit : WorkerState → ℕ) 
       (on_core : (named : NamedCoreState) → IsCalm named.core → IsReachedCore named.core → IsKeptCore named.core → IsReadyCore named.core
       → LeavesCalm run.steps within (core_effect run.objects.images (Err fetch_fault.Missing) run.objects.is_quiet named run.steps wanted))
       (on_none : LeavesRun run.steps within (unnamed_effect run called wanted)) where
-    core_at : (place : ℕ) (found : Option NamedCoreState) → slice_get run.objects.cores place ≡ found → LeavesRun run.steps within (found_core_effect (Err fetch_fault.Missing) run called wanted place found)
+    core_at : (place : ℕ) (found : Option NamedCoreState) → slice_get run.objects.cores place ≡ found → LeavesRun run.steps within (effect_of_core (Err fetch_fault.Missing) run called wanted place found)
     core_at place None none = on_none
     core_at place (Some named) found =
         let left = on_core named (item_at (λ (named : NamedCoreState). IsCalm named.core) run.objects.cores place named found are.cores)
@@ -415,7 +415,7 @@ module _ (Fits : WorkerState → Type 0) (records credit : WorkerState → ℕ) 
           steps = left.steps;
         }
 
-    core_located : (place : Option ℕ) → LeavesRun run.steps within (core_located_effect (Err fetch_fault.Missing) run called wanted place)
+    core_located : (place : Option ℕ) → LeavesRun run.steps within (effect_by_core_place (Err fetch_fault.Missing) run called wanted place)
     core_located None = on_none
     core_located (Some place) = core_at place (slice_get run.objects.cores place) refl
 
@@ -423,12 +423,12 @@ module _ (Fits : WorkerState → Type 0) (records credit : WorkerState → ℕ) 
     unfolding without_link_effect
     without_link = core_located (core_place run.objects.cores called)
 
-    link_at : (place : ℕ) (found : Option NamedLink) → LeavesRun run.steps within (found_effect (Err fetch_fault.Missing) run called wanted place found)
+    link_at : (place : ℕ) (found : Option NamedLink) → LeavesRun run.steps within (effect_of_link (Err fetch_fault.Missing) run called wanted place found)
     link_at place None = without_link
     link_at place (Some named) =
         let left = on_link named in record { calm = record { cores = are.cores; images = are.images }; ending = left.0; steps = omega (arith, left.1) }
 
-    located : (place : Option ℕ) → LeavesRun run.steps within (located_effect (Err fetch_fault.Missing) run called wanted place)
+    located : (place : Option ℕ) → LeavesRun run.steps within (effect_by_link_place (Err fetch_fault.Missing) run called wanted place)
     located None = without_link
     located (Some place) = link_at place (slice_get run.objects.links place)
 

@@ -40,7 +40,7 @@ use Rattle.link_bench.specs.declared.turns.TurnEnd.{TurnEnd}
 use Rattle.link_bench.specs.Acts.{Acted, IsFitAct, answer_of_reclaim, call_act, caller_act, first_refusal, free_act, link_act, made_call, misfit, own_caller, own_in, pump_act, pump_refusal, side_refusal, step_act, unless_own, unless_refused, wish_of}
 use Rattle.link_bench.specs.BenchCrashes.{reclaim_answer}
 use Rattle.link_bench.specs.Benches.{BenchState, IsSendable, advance_fault, begin_fault, call_walk, caller_fault, calling_fault, is_in_call, link_in, ready_fault, step_fault, used_fault, wish_fault}
-use Rattle.link_bench.specs.Turns.{Pumped, TurnCall, Turns, give_turn, is_whole, one_turn, pump_turns, reach_number, take_turn, tested_call, then_more, turn_call, turn_end_of, turn_message}
+use Rattle.link_bench.specs.Turns.{Pumped, TurnCall, Turns, give_turn, is_whole, one_turn, pump_turns, reach_number, take_turn, call_unless, then_more, turn_call, turn_end_of, turn_message}
 use Rattle.link_bench.specs.Watchers.{Seeing, watcher_after}
 use Rattle.link_bench.proofs.Begun.{begin_may}
 use Rattle.core_laws.specs.BenchMoves.{IsReachedBench}
@@ -355,7 +355,7 @@ module _ {W : Type 0} (sees : Seeing W) where
   wish_fault_fields bench caller (wish.Unbind address) is = tt
 
   tested_holds : (bench : BenchState) (steps caller : ℕ) (wanted : Wish) (why : Option BenchFault) → begin_fault bench caller wanted ≡ why → HoldsBench bench → caller < 2 ^ 64 → IsFit wanted
-      → IfSome why IsFieldBenchFault → HoldsCall (tested_call bench steps caller wanted why)
+      → IfSome why IsFieldBenchFault → HoldsCall (call_unless bench steps caller wanted why)
   tested_holds bench steps caller wanted (Some why) found is small fit fields = record { bench = is; number = (small, fields) }
   tested_holds bench steps caller wanted None ready is small fit fields =
       record { bench = call_holds bench steps caller wanted is ready fit; number = number_fields caller (call_walk bench steps caller wanted).reach small (call_reach bench steps caller wanted is ready fit) }

@@ -34,9 +34,10 @@ use Rattle.channel_bus.specs.Sides.{EndState, side_meaning}
 use Rattle.link_bench.specs.declared.benches.BegunCall.{BegunCall}
 use Rattle.link_bench.specs.declared.benches.Reach.TheVariants as reach
 use Rattle.link_bench.specs.BenchCrashes.{after_close, after_reclaim, after_reopen, reclaim_leaves, reclaim_leaves_at}
-use Rattle.link_bench.specs.BenchEnds.{bench_to_reopen, crashed_bench, is_first, is_remote, with_fresh_caller, with_new_host_unless, without_one, without_other, without_others, without_remote}
+use Rattle.link_bench.specs.BenchEnds.{bench_to_reopen, crashed_bench, with_fresh_caller, with_new_host_unless}
 use Rattle.link_bench.specs.Benches.{BenchState, BenchWalk, IsSendable, Walk, LinkRings, advance_steps, advance_walk, begin_fault, begin_walk, begun_call_of, bench_walk, call_steps, call_walk, is_in_call, later_steps, link_in, lists_of, new_bench_of, on_lists, on_rings, start_walk, walk_lists, walk_on, with_begun, with_new_caller}
 use Rattle.link_bench.proofs.Begun.{begin_may}
+use Rattle.link_bench.proofs.CrashWalks.{crash_walk, remote_walk}
 use Rattle.link_bench.proofs.KeptWalks.{next_may}
 use Rattle.link_bench.proofs.Lists.{call_lists, close_lists, later_lists, reclaim_lists}
 use Rattle.core_laws.specs.BenchMoves.{IsReachedBench}
@@ -266,30 +267,8 @@ new_fields config host remote first book at_host at_remote = record {
 fresh_caller : (bench : BenchState) (end : End) → IsFieldBench bench → IsFieldBench (with_fresh_caller bench end)
 fresh_caller bench end is = caller_fields bench end (free_number (link_in bench).callers) is
 
-remote_fields : (bench : BenchState) (caller : ℕ) → IsFieldBench bench → IsFieldBench (without_remote bench caller)
-remote_fields bench caller is =
-    let gone = reclaim_fields bench caller is in
-    cond_both (is_remote (end_of (link_in bench).callers caller))
-    (cond (eqb caller 1) (with_fresh_caller (after_reclaim bench caller) side.Remote) (after_reclaim bench caller)) bench IsFieldBench
-    (λ _. cond_both (eqb caller 1) (with_fresh_caller (after_reclaim bench caller) side.Remote) (after_reclaim bench caller) IsFieldBench
-    (λ _. fresh_caller (after_reclaim bench caller) side.Remote gone) (λ _. gone)) (λ _. is)
-
-one_fields : (bench : BenchState) (found : Option ℕ) → IsFieldBench bench → IsFieldBench (without_one bench found)
-one_fields bench None is = is
-one_fields bench (Some caller) is = remote_fields bench caller is
-
-other_fields : (first : Option ℕ) (bench : BenchState) (caller : ℕ) → IsFieldBench bench → IsFieldBench (without_other first bench caller)
-other_fields first bench caller is = cond_both (is_first first caller) bench (without_remote bench caller) IsFieldBench (λ _. is) (λ _. remote_fields bench caller is)
-
-others_fields : (first : Option ℕ) (bench : BenchState) (at count : ℕ) → IsFieldBench bench → IsFieldBench (without_others first bench at count)
-unfolding without_others
-others_fields first bench at zero is = is
-others_fields first bench at (suc left) is = others_fields first (without_other first bench at) (at + 1) left (other_fields first bench at is)
-
 pub crash_fields : (bench : BenchState) → IsFieldBench bench → IsFieldBench (crashed_bench bench)
-crash_fields bench is =
-    let shut = close_fields bench is in
-    others_fields _ (without_one (after_close bench) _) 0 64 (one_fields (after_close bench) _ shut)
+crash_fields bench is = crash_walk IsFieldBench (remote_walk IsFieldBench reclaim_fields (λ left gone. fresh_caller left side.Remote gone)) bench (close_fields bench is)
 
 renewed_fields : (bench : BenchState) (why : Option ReclaimRefusal) → IsFieldBench bench → IsFieldBench (with_new_host_unless bench why)
 renewed_fields bench None is = fresh_caller (after_reclaim bench 0) side.Host (reclaim_fields bench 0 is)

@@ -18,18 +18,17 @@ use Rattle.link_bench.specs.declared.benches.Reach.{Reach}
 use Rattle.link_bench.specs.declared.benches.Reach.TheVariants as reach
 use Rattle.link_bench.specs.Acts.{Acted, IsFitAct}
 use Rattle.link_bench.specs.Benches.{BenchState, BenchWalk, IsSendable, advance_walk, begin_fault, is_in_call, link_in, start_walk}
-use Rattle.core_actors.specs.declared.actors.Actor.{Actor}
-use Rattle.core_actors.specs.declared.actors.Actor.TheVariants as actor
 use Rattle.core_actors.specs.declared.progress.Driven.{Driven}
 use Rattle.core_actors.specs.declared.progress.Driven.TheVariants as driven
 use Rattle.core_actors.specs.Actors.{ActorsState}
 use Rattle.core_actors.specs.ActorEnds.{actors_after_end}
-use Rattle.core_actors.specs.ActorSteps.{drive_of_reach, drive_of_work, first_or_take, has_calls, host_at_step, link_step}
+use Rattle.core_actors.specs.ActorSteps.{drive_of_reach, drive_of_work, first_or_take, host_at_step, link_step}
 use Rattle.crash_recover.specs.CoreActs.{act_on_core, core_after_act}
 use Rattle.crash_recover.specs.Cores.{CoreState, LoadState}
-use Rattle.crash_recover.specs.Drives.{DriveStep, actor_step, actor_to_step, closed_by, core_with_report, drive_step, driven_with_report, host_step, is_idle, placed_map, record_run, record_step, with_turn_after, worker_call, worker_step}
+use Rattle.crash_recover.specs.Drives.{DriveStep, closed_by, core_with_report, drive_step, driven_with_report, host_step, placed_map, record_run, record_step, worker_call}
 use Rattle.core_laws.specs.BenchMoves.{IsReachedBench, IsReachedCore}
-use Rattle.core_laws.proofs.CoreMoves.{first_sendable}
+use Rattle.core_laws.proofs.CoreMoves.{first_sendable, reached_parts}
+use Rattle.core_laws.proofs.DriveWalks.{HoldOfParts, drive_walk, of_link}
 use Rattle.crash_recover.proofs.KeptActs.{AreKeptSteps, act_kept}
 use Rattle.core_laws.proofs.BenchMoves.{advanced, begun_reached, enlisted, reclaim_tried}
 use Rattle.field_laws.specs.Fields.{IsFieldWish}
@@ -149,20 +148,27 @@ record_fields core is =
 
 -- ---- a step of the actors
 
-worker_step_fields : (core : CoreState) → IsReachedCore core → IsFieldCore core → HoldsDrive (worker_step core)
-worker_step_fields core reached is =
-    cond_both (has_calls core.bench core.actors) (worker_call core core.bench) (record_step core) HoldsDrive (λ _. worker_at core core.bench reached reached.bench is is.bench) (λ _. record_fields core is)
+-- a core that is reached, with its fields
+record HoldsCore (core : CoreState) : Type 0 where
+  pub reached : IsReachedCore core
+  pub fields : IsFieldCore core
 
-actor_fields : (who : Actor) (core : CoreState) → IsReachedCore core → IsFieldCore core → HoldsDrive (actor_step who core)
-actor_fields actor.Host core reached is = host_at core core.bench reached reached.bench is is.bench
-actor_fields actor.Worker core reached is = worker_step_fields core reached is
+drive_parts : HoldOfParts HoldsCore HoldsDrive
+drive_parts = record {
+  rest = λ core is. record { core = is.fields; driven = tt };
+  turn = λ who core is.
+      let fields = is.fields in
+      record {
+        reached = reached_parts.turn who core is.reached;
+        fields = record { book = fields.book; life = fields.life; image = fields.image; loaded = fields.loaded; placed = fields.placed; rest = fields.rest; bench = fields.bench; calls = record { host = fields.calls.host; worker = fields.calls.worker } };
+      };
+  host = λ core bench there is. host_at core (Some bench) is.reached (of_link IsReachedBench core bench there is.reached.bench) is.fields (of_link IsFieldBench core bench there is.fields.bench);
+  call = λ core bench there is. worker_at core (Some bench) is.reached (of_link IsReachedBench core bench there is.reached.bench) is.fields (of_link IsFieldBench core bench there is.fields.bench);
+  work = λ core silent is. record_fields core is.fields;
+}
 
 pub drive_fields : (core : CoreState) → IsReachedCore core → IsFieldCore core → HoldsDrive (drive_step core)
-drive_fields core reached is =
-    cond_both (is_idle core) _ _ HoldsDrive (λ _. record { core = is; driven = tt })
-    (λ _. actor_fields (actor_to_step core) (with_turn_after (actor_to_step core) core)
-    (record { bench = reached.bench; calls = record { host = reached.calls.host; worker = reached.calls.worker } })
-    (record { book = is.book; life = is.life; image = is.image; loaded = is.loaded; placed = is.placed; rest = is.rest; bench = is.bench; calls = record { host = is.calls.host; worker = is.calls.worker } }))
+drive_fields core reached is = drive_walk HoldsCore HoldsDrive drive_parts core (record { reached = reached; fields = is })
 
 -- ---- acts on the link of a core
 

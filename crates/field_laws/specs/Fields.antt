@@ -6,7 +6,7 @@ use Rattle.rp_base.specs.declared.kinds.BoundEndpoint.{BoundEndpoint}
 use Rattle.rp_base.specs.declared.kinds.Endpoint.{Endpoint}
 use Rattle.rp_base.specs.declared.kinds.Verdict.{Verdict}
 use Rattle.rp_base.specs.declared.kinds.Verdict.TheVariants as verdict
-use Rattle.rp_base.specs.declared.limits.TheConstants.{CALLERS_MOST, ENDPOINTS_MOST}
+use Rattle.rp_base.specs.declared.limits.TheConstants.{CALLERS_MOST, ENDPOINTS_MOST, NAME_MOST}
 use Rattle.lane_model.specs.declared.calls.CallEnd.{CallEnd}
 use Rattle.lane_model.specs.declared.calls.CallEnd.TheVariants as end
 use Rattle.lane_model.specs.declared.calls.Outcome.{Outcome}
@@ -29,9 +29,9 @@ use Rattle.channel_bus.specs.Sides.{EndState}
 abbrev pub AreBytes : List ℕ → Type 0
 AreBytes bytes = All (λ byte. byte < 256) bytes
 
--- the name of a channel: at most 31 bytes, none of which is zero
+-- the name of a channel: of at most so many bytes as a name has, none of which is zero
 abbrev pub IsChannelName : List ℕ → Type 0
-IsChannelName name = (length name ≤ 31) × All (λ byte. (0 < byte) × (byte < 256)) name
+IsChannelName name = (length name ≤ NAME_MOST) × All (λ byte. (0 < byte) × (byte < 256)) name
 
 abbrev pub IsFieldEndpoint : Endpoint → Type 0
 IsFieldEndpoint endpoint = (endpoint.address < 2 ^ 32) × (endpoint.generation < 2 ^ 64)

@@ -53,12 +53,12 @@ use Rattle.link_commands.specs.declared.acts.ManagerAct.TheVariants as manager
 use Rattle.link_commands.specs.declared.acts.NamedAct.{NamedAct}
 use Rattle.link_commands.specs.declared.acts.NamedAct.TheVariants as under
 use Rattle.link_commands.specs.CallEvents.{end_event, fault_event, reach_events, refused_event, took_event}
-use Rattle.link_commands.specs.ChannelLists.{channel_event, channels_events, listed_channels}
+use Rattle.link_commands.specs.ChannelLists.{channel_event, channels_events, channel_events_unless}
 use Rattle.link_commands.specs.Effects.{Effect, answer_events, reclaim_event, tells, turn_events}
 use Rattle.link_commands.specs.LinkCommands.{lane_event, link_effect, manager_effect, view_events}
 use Rattle.link_commands.specs.NamedLinks.{NamedLink}
 use Rattle.link_commands.specs.Recoveries.{close_effect, close_event, opened_effect, reopen_effect, reopen_events}
-use Rattle.link_commands.specs.RingDumps.{bench_ring_events, dump_rows, ring_events, row_count, row_events, shown_ring}
+use Rattle.link_commands.specs.RingDumps.{bench_ring_events, dump_rows, ring_events, row_count, row_events, ring_events_unless}
 use Rattle.field_laws.specs.Fields.{AreBytes, IsFieldChannel, IsFieldEnd, IsFieldFault, IsFieldLane, IsFieldLink, IsFieldVerdict}
 use Rattle.field_laws.specs.FieldBenches.{IsFieldActed, IsFieldBench, IsFieldBenchFault, IsFieldReach, IsFieldReclaim, IsFieldTurnEnd}
 use Rattle.field_laws.specs.FieldCores.{IsFieldReopen}
@@ -181,7 +181,7 @@ module _ (name : List ℕ) (named : IsName name) where
   channel_spelled : (channel : Channel) → IsFieldChannel channel → IsSpelled (channel_event name channel)
   channel_spelled channel is = channel_with channel.name channel.address channel.endpoint is
 
-  listed_spelled : (bench : BenchState) (held : Option ℕ) → IfSome held (λ caller. caller ≤ 64) → IsFieldLink (link_in bench) → All IsSpelled (listed_channels name bench held)
+  listed_spelled : (bench : BenchState) (held : Option ℕ) → IfSome held (λ caller. caller ≤ 64) → IsFieldLink (link_in bench) → All IsSpelled (channel_events_unless name bench held)
   listed_spelled bench (Some caller) small is = one (event.StillTurn name caller) (still_spelled caller small)
   listed_spelled bench None small is =
       All-map IsSpelled (channel_event name) (link_in bench).to_host.desk.channels
@@ -213,7 +213,7 @@ module _ (name : List ℕ) (named : IsName name) where
       All-cons IsSpelled (event.Ring name lane (length bytes)) (dump_rows (row_count bytes) name 0 bytes) (((named, (first, (omega (arith, short), tt))), tt))
       (rows_spelled (row_count bytes) 0 bytes (omega arith) (omega (arith, short)) are)
 
-  shown_spelled : (bench : BenchState) (lane : ℕ) (held : Option ℕ) → lane < 2 → HasSoundRings bench.rings → IfSome held (λ caller. caller ≤ 64) → All IsSpelled (shown_ring name bench lane held)
+  shown_spelled : (bench : BenchState) (lane : ℕ) (held : Option ℕ) → lane < 2 → HasSoundRings bench.rings → IfSome held (λ caller. caller ≤ 64) → All IsSpelled (ring_events_unless name bench lane held)
   shown_spelled bench lane (Some caller) first rings small = one (event.StillTurn name caller) (still_spelled caller small)
   shown_spelled bench lane None first rings small =
       ring_spelled lane (lane_bytes bench.rings lane) first (bytes_few bench.rings lane rings)

@@ -95,7 +95,7 @@ use Rattle.link_commands.specs.declared.acts.NamedAct.TheVariants as under
 use Rattle.link_commands.specs.declared.acts.StartAct.{StartAct}
 use Rattle.link_commands.specs.declared.acts.StartAct.TheVariants as starts
 use Rattle.link_commands.specs.CallEvents.{end_event}
-use Rattle.command_run.specs.CoreCommands.{add_fault_events, added_effect, core_act_effect, core_effect, declared_effect, driver_effect, recovery_effect, region_effect}
+use Rattle.command_run.specs.CoreCommands.{add_fault_events, added_effect, core_act_effect, core_effect, driver_effect_unless, driver_effect, recovery_effect, region_effect}
 use Rattle.command_run.specs.CoreDrives.{actor_end_events, drive_effect, drive_steps, driven_events, is_crashed, rest_event, rests_or, step_events, step_then}
 use Rattle.command_run.specs.CoreEffects.{CoreEffect, core_tells}
 use Rattle.crash_recover.specs.CoreCallers.{core_turn_holder}
@@ -396,7 +396,7 @@ module _ (name : List ℕ) (named : IsName name) where
     unfolding region_effect
     region_spelled region = added region (add_fault core region) refl
 
-    declared : (channel : List ℕ) (kind : DriverKind) (why : Option AddFault) → IsName channel → LeavesSpelled (declared_effect name core steps channel kind why)
+    declared : (channel : List ℕ) (kind : DriverKind) (why : Option AddFault) → IsName channel → LeavesSpelled (driver_effect_unless name core steps channel kind why)
     declared channel kind None called = record {
       left = record { book = is.book; life = is.life; image = is.image; loaded = is.loaded; placed = is.placed; rest = is.rest; bench = is.bench; calls = record { host = is.calls.host; worker = is.calls.worker } };
       events = one (event.Driver name channel kind) (((named, (called, (tt, tt))), tt));

@@ -38,7 +38,7 @@ use Rattle.command_run.specs.Dumps.{bytes_answer, core_answer, crashed_load, kep
 use Rattle.command_run.specs.NamedCores.{NamedCoreState}
 use Rattle.command_run.specs.NamedImages.{ImageState}
 use Rattle.link_commands.specs.NamedLinks.{NamedLink}
-use Rattle.command_run.specs.Runs.{ObjectsState, Run, RunEffect, RunState, asked_name, core_located_effect, core_made_effect, core_named, core_place, dump_answer, dump_effect, dumped_effect, effect_of, find_core, found_core_effect, found_effect, has_image, image_effect, is_full, line_effect, located_effect, made_effect, making_effect, name_effect, new_end, new_run, place_of, quiet_effect, regions_of, run_from, run_of, run_on, run_tells, run_told, unnamed_effect, with_image, without_link_effect}
+use Rattle.command_run.specs.Runs.{ObjectsState, Run, RunEffect, RunState, asked_name, effect_by_core_place, core_made_effect, core_named, core_place, dump_answer, dump_effect, dump_effect_of, effect_of, find_core, effect_of_core, effect_of_link, has_image, image_effect, is_full, line_effect, effect_by_link_place, made_effect, making_effect, name_effect, new_end, new_run, place_of, quiet_effect, regions_of, run_from, run_of, run_on, run_tells, run_told, unnamed_effect, with_image, without_link_effect}
 use Rattle.command_run.specs.Stores.{Answer, Shelf, Told, later_told, told_answer}
 use Rattle.run_laws.specs.Reached.{AreReached}
 use Rattle.run_laws.proofs.CoreWalks.{FitsNamed}
@@ -156,7 +156,7 @@ fits_named (under.Core asked) knows = tt
 
 module _ (answer : Answer) (told_are : IfOk answer AreBytes) (run : RunState) (name : List ℕ) (wanted : NamedAct (List ℕ)) (named : IsName name) (knows : IsKnownAct wanted) (are : AreFieldObjects run.objects)
     (reached : AreReached run.objects) where
-  core_at : (place : ℕ) (found : Option NamedCoreState) → slice_get run.objects.cores place ≡ found → RunSpelled (found_core_effect answer run name wanted place found)
+  core_at : (place : ℕ) (found : Option NamedCoreState) → slice_get run.objects.cores place ≡ found → RunSpelled (effect_of_core answer run name wanted place found)
   core_at place None none_there = unnamed run are name named wanted knows
   core_at place (Some on) found =
       let is = item_at IsFieldNamedCore run.objects.cores place on found are.cores in
@@ -167,7 +167,7 @@ module _ (answer : Answer) (told_are : IfOk answer AreBytes) (run : RunState) (n
         events = left.events;
       }
 
-  core_located : (place : Option ℕ) → RunSpelled (core_located_effect answer run name wanted place)
+  core_located : (place : Option ℕ) → RunSpelled (effect_by_core_place answer run name wanted place)
   core_located None = unnamed run are name named wanted knows
   core_located (Some place) = core_at place (slice_get run.objects.cores place) refl
 
@@ -175,7 +175,7 @@ module _ (answer : Answer) (told_are : IfOk answer AreBytes) (run : RunState) (n
   unfolding without_link_effect
   without_link = core_located (core_place run.objects.cores name)
 
-  link_at : (place : ℕ) (found : Option NamedLink) → slice_get run.objects.links place ≡ found → RunSpelled (found_effect answer run name wanted place found)
+  link_at : (place : ℕ) (found : Option NamedLink) → slice_get run.objects.links place ≡ found → RunSpelled (effect_of_link answer run name wanted place found)
   link_at place None none_there = without_link
   link_at place (Some on) found =
       let is = item_at IsFieldNamedLink run.objects.links place on found are.links in
@@ -194,7 +194,7 @@ module _ (answer : Answer) (told_are : IfOk answer AreBytes) (run : RunState) (n
         events = left.events;
       }
 
-  located : (place : Option ℕ) → RunSpelled (located_effect answer run name wanted place)
+  located : (place : Option ℕ) → RunSpelled (effect_by_link_place answer run name wanted place)
   located None = without_link
   located (Some place) = link_at place (slice_get run.objects.links place) refl
 
@@ -243,7 +243,7 @@ module _ (name image : List ℕ) (named : IsName name) (called : IsName image) w
   core_told is_taken kept None is = ((named, tt), tt)
   core_told is_taken kept (Some on) is = load_told is_taken kept on.core (crashed_load on.core.life.state on.core.loaded) is.core is.rungs.load.regions
 
-  dumped : (run : RunState) (answered : Result (List ℕ) Event) → IsSpelledAnswer answered → AreFieldObjects run.objects → RunSpelled (dumped_effect run image answered)
+  dumped : (run : RunState) (answered : Result (List ℕ) Event) → IsSpelledAnswer answered → AreFieldObjects run.objects → RunSpelled (dump_effect_of run image answered)
   dumped run (Ok bytes) is are = record {
     left = record {
       links = are.links;

@@ -6,6 +6,7 @@ pub mod KeptWalks
 pub mod TurnWalks
 pub mod Outs
 pub mod RemoteEnds
+pub mod CrashWalks
 pub mod BenchMay
 pub mod BenchSteps
 pub mod Cuts

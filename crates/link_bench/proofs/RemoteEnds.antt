@@ -39,7 +39,7 @@ pub record IsQuiet (link : LinkState EndState) : Type 0 where
   pub free : holder link.to_remote.receiver ≡ None
 
 -- nobody else has a turn that nobody has
-free_other : {C : Type 0} (now : Turn C) (caller : ℕ) → holder now ≡ None → other_holder now caller ≡ None
+pub free_other : {C : Type 0} (now : Turn C) (caller : ℕ) → holder now ≡ None → other_holder now caller ≡ None
 free_other now caller none = cond_both (has_call now caller) None (holder now) (λ (found : Option ℕ). found ≡ None) (λ _. refl) (λ _. none)
 
 -- who has a turn behind the end of a caller is who else had it

@@ -31,14 +31,14 @@ reach_number caller (reach.At step) = Err (turn_end.Reached caller (reach.At ste
 reach_number caller reach.Limit = Err (turn_end.Reached caller reach.Limit)
 
 -- a call of a turn, with the tests that each call has
-abbrev pub tested_call : BenchState → ℕ → ℕ → Wish → Option BenchFault → TurnCall
-tested_call bench steps caller wanted (Some why) = record { bench = bench; steps = steps; number = Err (turn_end.Fault caller why) }
-tested_call bench steps caller wanted None =
+abbrev pub call_unless : BenchState → ℕ → ℕ → Wish → Option BenchFault → TurnCall
+call_unless bench steps caller wanted (Some why) = record { bench = bench; steps = steps; number = Err (turn_end.Fault caller why) }
+call_unless bench steps caller wanted None =
     let walk = call_walk bench steps caller wanted in
     record { bench = walk.bench; steps = walk.steps; number = reach_number caller walk.reach }
 
 unfoldable pub turn_call : BenchState → ℕ → ℕ → Wish → TurnCall
-turn_call bench steps caller wanted = tested_call bench steps caller wanted (begin_fault bench caller wanted)
+turn_call bench steps caller wanted = call_unless bench steps caller wanted (begin_fault bench caller wanted)
 
 -- what turns leave: the bench, who watches its link, the steps of the run until then, and how the last one ended
 pub record Turns (W : Type 0) : Type 0 where

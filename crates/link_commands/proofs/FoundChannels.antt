@@ -10,7 +10,7 @@ use Rattle.journal.specs.declared.events.Event.{Event}
 use Rattle.link_bench.specs.Benches.{BenchState, link_in}
 use Rattle.link_bench.specs.BenchRings.{IsSnapshotFault}
 use Rattle.lane_model.specs.Lanes.{holder}
-use Rattle.link_commands.specs.ChannelLists.{channel_event, channels_events, found_channels, listed_channels}
+use Rattle.link_commands.specs.ChannelLists.{channel_event, channels_events, found_channels, channel_events_unless}
 
 -- the two ways to say why channels are not answered
 pub fault_is : (receiver : Option ℕ) (why : SnapshotFault) → (option_map snapshot_fault.StillTurn receiver ≡ Some why) ⊎ ((why ≡ snapshot_fault.NoMemory) × (receiver ≡ None)) → IsSnapshotFault receiver why
@@ -22,8 +22,8 @@ fault_is None why (inr both) = both.0
 module _ (name : List ℕ) (bench : BenchState) (P : List Event → Type 0) where
   pub found_is : (answer : Result (Vec Channel Global) SnapshotFault) (receiver : Option ℕ) → OnOk answer (receiver ≡ None)
       → IfOk answer (λ channels. channels.items ≡ (link_in bench).to_host.desk.channels) → IfErr answer (IsSnapshotFault receiver)
-      → IsSomeAnd (found_channels name answer) P → P (listed_channels name bench receiver)
-  found_is (Ok channels) receiver free same refused told = subst P (ap (map (channel_event name)) same ∙ ap (listed_channels name bench) (sym free)) told
+      → IsSomeAnd (found_channels name answer) P → P (channel_events_unless name bench receiver)
+  found_is (Ok channels) receiver free same refused told = subst P (ap (map (channel_event name)) same ∙ ap (channel_events_unless name bench) (sym free)) told
   found_is (Err (snapshot_fault.StillTurn caller)) (Some holder) free same refused told = subst P (cc) told
   found_is (Err (snapshot_fault.StillTurn caller)) None free same refused told = absurd (cc)
   found_is (Err snapshot_fault.NoMemory) receiver free same refused told = absurd told

@@ -20,10 +20,10 @@ found_channels name (Err (snapshot_fault.StillTurn caller)) = Some (event.StillT
 found_channels name (Err snapshot_fault.NoMemory) = None
 
 -- the channels of the host end, where no caller has the turn behind which they stand
-abbrev pub listed_channels : List ℕ → BenchState → Option ℕ → List Event
-listed_channels name bench (Some caller) = event.StillTurn name caller ∷ []
-listed_channels name bench None = map (channel_event name) (link_in bench).to_host.desk.channels
+abbrev pub channel_events_unless : List ℕ → BenchState → Option ℕ → List Event
+channel_events_unless name bench (Some caller) = event.StillTurn name caller ∷ []
+channel_events_unless name bench None = map (channel_event name) (link_in bench).to_host.desk.channels
 
 -- `channels X`
 unfoldable pub channels_events : List ℕ → BenchState → List Event
-channels_events name bench = listed_channels name bench (holder (link_in bench).to_host.receiver)
+channels_events name bench = channel_events_unless name bench (holder (link_in bench).to_host.receiver)

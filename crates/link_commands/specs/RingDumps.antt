@@ -24,10 +24,10 @@ abbrev pub ring_events : List ℕ → ℕ → List ℕ → List Event
 ring_events name lane bytes = event.Ring name lane (length bytes) ∷ dump_rows (row_count bytes) name 0 bytes
 
 -- the bytes of a ring of a link no turn of which is out
-abbrev pub shown_ring : List ℕ → BenchState → ℕ → Option ℕ → List Event
-shown_ring name bench lane (Some caller) = event.StillTurn name caller ∷ []
-shown_ring name bench lane None = ring_events name lane (lane_bytes bench.rings lane)
+abbrev pub ring_events_unless : List ℕ → BenchState → ℕ → Option ℕ → List Event
+ring_events_unless name bench lane (Some caller) = event.StillTurn name caller ∷ []
+ring_events_unless name bench lane None = ring_events name lane (lane_bytes bench.rings lane)
 
 -- `ring X LANE`
 unfoldable pub bench_ring_events : List ℕ → BenchState → ℕ → List Event
-bench_ring_events name bench lane = shown_ring name bench lane (turn_holder (link_in bench))
+bench_ring_events name bench lane = ring_events_unless name bench lane (turn_holder (link_in bench))

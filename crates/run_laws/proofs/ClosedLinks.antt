@@ -22,7 +22,8 @@ use Rattle.link_bench.specs.Watchers.{nobody_sees}
 use Rattle.link_bench.proofs.Begun.{get-set_other}
 use Rattle.core_laws.specs.BenchMoves.{IsReachedBench}
 use Rattle.core_laws.specs.ClosedLinks.{StaysClosed}
-use Rattle.core_laws.proofs.ActMoves.{act_closed, closed_by}
+use Rattle.core_laws.proofs.ClosedMoves.{closed_by}
+use Rattle.act_laws.proofs.ActMoves.{act_closed}
 use Rattle.core_laws.proofs.BenchMoves.{comes_close}
 use Rattle.core_laws.proofs.LinkMoves.{comes_none}
 use Rattle.link_commands.specs.declared.acts.Line.{Line}
@@ -39,7 +40,7 @@ use Rattle.link_commands.specs.LinkCommands.{link_effect}
 use Rattle.command_run.specs.NamedCores.{NamedCoreState}
 use Rattle.link_commands.specs.NamedLinks.{NamedLink}
 use Rattle.link_commands.specs.Recoveries.{close_effect, close_event}
-use Rattle.command_run.specs.Runs.{RunEffect, RunState, core_located_effect, core_made_effect, core_place, dump_answer, dump_effect, dumped_effect, effect_of, found_core_effect, found_effect, has_image, image_effect, is_full, line_effect, located_effect, made_effect, making_effect, name_effect, place_of, quiet_effect, run_tells, unnamed_effect, with_image, without_link_effect}
+use Rattle.command_run.specs.Runs.{RunEffect, RunState, effect_by_core_place, core_made_effect, core_place, dump_answer, dump_effect, dump_effect_of, effect_of, effect_of_core, effect_of_link, has_image, image_effect, is_full, line_effect, effect_by_link_place, made_effect, making_effect, name_effect, place_of, quiet_effect, run_tells, unnamed_effect, with_image, without_link_effect}
 use Rattle.command_run.specs.Stores.{Answer}
 use Rattle.run_laws.specs.ClosedLinks.{LeavesClosed, ReopensOther, bench_at}
 use Rattle.run_laws.proofs.CoreWalks.{FitsNamed}
@@ -97,11 +98,11 @@ module _ (run : RunState) (place : ℕ) (on : NamedLink) (found : slice_get run.
   unnamed name (under.Show shown) = unchanged
   unnamed name (under.Core asked) = unchanged
 
-  core_at : (answer : Answer) (name : List ℕ) (wanted : NamedAct (List ℕ)) (at : ℕ) (core : Option NamedCoreState) → Closed (found_core_effect answer run name wanted at core)
+  core_at : (answer : Answer) (name : List ℕ) (wanted : NamedAct (List ℕ)) (at : ℕ) (core : Option NamedCoreState) → Closed (effect_of_core answer run name wanted at core)
   core_at answer name wanted at None = unnamed name wanted
   core_at answer name wanted at (Some core) = unchanged
 
-  core_located : (answer : Answer) (name : List ℕ) (wanted : NamedAct (List ℕ)) (at : Option ℕ) → Closed (core_located_effect answer run name wanted at)
+  core_located : (answer : Answer) (name : List ℕ) (wanted : NamedAct (List ℕ)) (at : Option ℕ) → Closed (effect_by_core_place answer run name wanted at)
   core_located answer name wanted None = unnamed name wanted
   core_located answer name wanted (Some at) = core_at answer name wanted at (slice_get run.objects.cores at)
 
@@ -131,7 +132,7 @@ module _ (run : RunState) (place : ℕ) (on : NamedLink) (found : slice_get run.
   -- ---- what is done under a name
 
   link_at : (answer : Answer) (name : List ℕ) (wanted : NamedAct (List ℕ)) (at : ℕ) (link : Option NamedLink) → slice_get run.objects.links at ≡ link → FitsNamed IsFitAct wanted
-      → (at ≡ place → wanted ≢ under.Manage manager.Reopen) → Closed (found_effect answer run name wanted at link)
+      → (at ≡ place → wanted ≢ under.Manage manager.Reopen) → Closed (effect_of_link answer run name wanted at link)
   link_at answer name wanted at None none fits other = without_link answer name wanted
   link_at answer name wanted at (Some link) there fits other = elim (eqb_tells place at) [
     | inl same ↦ (let one : link ≡ on = same_item link on (sym there ∙ ap (slice_get run.objects.links) (sym same.1) ∙ found) in
@@ -144,7 +145,7 @@ module _ (run : RunState) (place : ℕ) (on : NamedLink) (found : slice_get run.
   ]
 
   located : (answer : Answer) (name : List ℕ) (wanted : NamedAct (List ℕ)) (at : Option ℕ) → FitsNamed IsFitAct wanted → (at ≡ Some place → wanted ≢ under.Manage manager.Reopen)
-      → Closed (located_effect answer run name wanted at)
+      → Closed (effect_by_link_place answer run name wanted at)
   located answer name wanted None fits other = without_link answer name wanted
   located answer name wanted (Some at) fits other = link_at answer name wanted at (slice_get run.objects.links at) refl fits (λ same. other (ap Some same))
 
@@ -165,7 +166,7 @@ module _ (run : RunState) (place : ℕ) (on : NamedLink) (found : slice_get run.
   unfolding quiet_effect
   quieted set = unchanged
 
-  dumped : (image : List ℕ) (answered : Result (List ℕ) Event) → Closed (dumped_effect run image answered)
+  dumped : (image : List ℕ) (answered : Result (List ℕ) Event) → Closed (dump_effect_of run image answered)
   dumped image (Ok bytes) = unchanged
   dumped image (Err told) = unchanged
 

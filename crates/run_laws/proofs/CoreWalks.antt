@@ -22,7 +22,7 @@ use Rattle.link_commands.specs.declared.acts.NamedAct.{NamedAct}
 use Rattle.link_commands.specs.declared.acts.NamedAct.TheVariants as under
 use Rattle.link_commands.specs.declared.acts.StartAct.{StartAct}
 use Rattle.link_commands.specs.declared.acts.StartAct.TheVariants as starts
-use Rattle.command_run.specs.CoreCommands.{added_effect, core_act_effect, core_effect, declared_effect, driver_effect, is_on, recovery_effect, region_effect}
+use Rattle.command_run.specs.CoreCommands.{added_effect, core_act_effect, core_effect, driver_effect_unless, driver_effect, is_on, recovery_effect, region_effect}
 use Rattle.command_run.specs.CoreDrives.{drive_effect, drive_steps, rest_event, rests_or, step_then}
 use Rattle.command_run.specs.CoreEffects.{CoreEffect, core_tells}
 use Rattle.command_run.specs.CoreLinks.{core_link_effect}
@@ -70,7 +70,7 @@ module _ (Fits : LinkAct (List ℕ) → Type 0) (C : CoreState → Type 0) (keep
     unfolding region_effect
     region_kept region = added region (add_fault core region) refl
 
-    declared_at : (channel : List ℕ) (kind : DriverKind) (why : Option AddFault) → LeavesCore (declared_effect name core steps channel kind why)
+    declared_at : (channel : List ℕ) (kind : DriverKind) (why : Option AddFault) → LeavesCore (driver_effect_unless name core steps channel kind why)
     declared_at channel kind None = keep.driver core channel kind is
     declared_at channel kind (Some why) = is
 

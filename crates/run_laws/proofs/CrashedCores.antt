@@ -21,7 +21,8 @@ use Rattle.crash_recover.specs.CoreCrashes.{report_as, report_of}
 use Rattle.crash_recover.specs.CoreLeaves.{detach_of, detached_core, leave_as, shutdown_of, unloaded_core}
 use Rattle.core_actors.specs.ActorEnds.{actors_after_end}
 use Rattle.core_laws.specs.BenchMoves.{IsReachedBench, IsReachedCore}
-use Rattle.core_laws.proofs.ActMoves.{act_closed, closed_by}
+use Rattle.core_laws.proofs.ClosedMoves.{closed_by}
+use Rattle.act_laws.proofs.ActMoves.{act_closed}
 use Rattle.core_laws.proofs.LinkMoves.{comes_none}
 use Rattle.channel_bus.specs.Sides.{side_meaning}
 use Rattle.journal.specs.declared.events.Event.TheVariants as event
@@ -31,14 +32,14 @@ use Rattle.link_commands.specs.declared.acts.NamedAct.{NamedAct}
 use Rattle.link_commands.specs.declared.acts.NamedAct.TheVariants as under
 use Rattle.link_commands.specs.declared.acts.StartAct.TheVariants as starts
 use Rattle.link_commands.specs.Acts.{IsFitNamed}
-use Rattle.command_run.specs.CoreCommands.{added_effect, core_act_effect, core_effect, declared_effect, driver_effect, region_effect}
+use Rattle.command_run.specs.CoreCommands.{added_effect, core_act_effect, core_effect, driver_effect_unless, driver_effect, region_effect}
 use Rattle.command_run.specs.CoreDrives.{drive_effect, drive_steps}
 use Rattle.command_run.specs.CoreEffects.{CoreEffect, core_tells}
 use Rattle.command_run.specs.CoreLinks.{core_link_effect}
 use Rattle.command_run.specs.CoreLives.{crash_effect, detach_effect, found_image, may_step, shutdown_effect, started_effect}
 use Rattle.command_run.specs.NamedCores.{NamedCoreState}
 use Rattle.command_run.specs.NamedImages.{ImageState}
-use Rattle.command_run.specs.Runs.{RunEffect, RunState, core_located_effect, found_core_effect, located_effect, name_effect, place_of, placed_core_effect, without_link_effect}
+use Rattle.command_run.specs.Runs.{RunEffect, RunState, effect_by_core_place, effect_of_core, effect_by_link_place, name_effect, place_of, core_effect_at, without_link_effect}
 use Rattle.command_run.specs.Stores.{Answer}
 use Rattle.run_laws.specs.CrashedCores.{LinkStaysClosed, StaysCrashed}
 use Rattle.run_laws.specs.Starts.{IsCoreAt, core_at}
@@ -105,7 +106,7 @@ module _ (core : CoreState) (crashed : core.life.state ≡ Crashed) (reached : I
   region_added name steps region None = stays _ crashed refl
   region_added name steps region (Some why) = unchanged
 
-  driver_added : (name : List ℕ) (steps : ℕ) (channel : List ℕ) (kind : DriverKind) (why : Option AddFault) → StaysCrashed core (declared_effect name core steps channel kind why).core
+  driver_added : (name : List ℕ) (steps : ℕ) (channel : List ℕ) (kind : DriverKind) (why : Option AddFault) → StaysCrashed core (driver_effect_unless name core steps channel kind why).core
   driver_added name steps channel kind None = stays _ crashed refl
   driver_added name steps channel kind (Some why) = unchanged
 
@@ -159,10 +160,10 @@ pub stays_crashed : (answer : Answer) (run : RunState) (name : List ℕ) (place 
 unfolding name_effect without_link_effect
 stays_crashed answer run name place on wanted at fits reached crashed shut other =
     let effect : CoreEffect = core_effect run.objects.images answer run.objects.is_quiet on run.steps wanted in
-    let leaves : located_effect answer run name wanted (place_of run.objects.links name) ≡ placed_core_effect run place on effect =
-    ap (located_effect answer run name wanted) at.unlinked
-    ∙ ap (core_located_effect answer run name wanted) at.placed
-    ∙ ap (found_core_effect answer run name wanted place) at.found in
+    let leaves : effect_by_link_place answer run name wanted (place_of run.objects.links name) ≡ core_effect_at run place on effect =
+    ap (effect_by_link_place answer run name wanted) at.unlinked
+    ∙ ap (effect_by_core_place answer run name wanted) at.placed
+    ∙ ap (effect_of_core answer run name wanted place) at.found in
     subst (λ (found : Option CoreState). IsSomeAnd found (StaysCrashed on.core))
     (sym (ap (λ (left : RunEffect). core_at left.run place) leaves ∙ core_behind run name place on effect at))
     (under_name run.objects.images answer run.objects.is_quiet on run.steps crashed reached shut wanted fits other)

@@ -7,3 +7,6 @@ pub mod StartsInRuns
 pub mod ClosedLinks
 pub mod CrashedCores
 pub mod ScriptDrives
+pub mod AnyActs
+pub mod RegionsSound
+pub mod Beginnings

@@ -25,7 +25,7 @@ use Rattle.link_commands.specs.Acts.{line_of}
 use Rattle.link_commands.specs.LinkCommands.{link_effect}
 use Rattle.command_run.specs.NamedCores.{NamedCoreState}
 use Rattle.link_commands.specs.NamedLinks.{NamedLink}
-use Rattle.command_run.specs.Runs.{ObjectsState, Run, RunEffect, RunState, asked_name, core_located_effect, core_made_effect, core_place, dump_answer, dump_effect, dumped_effect, effect_of, found_core_effect, found_effect, has_image, image_effect, is_full, line_effect, located_effect, made_effect, making_effect, name_effect, new_end, new_run, place_of, quiet_effect, regions_of, run_from, run_of, run_on, run_tells, run_told, unnamed_effect, with_image, without_link_effect}
+use Rattle.command_run.specs.Runs.{ObjectsState, Run, RunEffect, RunState, asked_name, effect_by_core_place, core_made_effect, core_place, dump_answer, dump_effect, dump_effect_of, effect_of, effect_of_core, effect_of_link, has_image, image_effect, is_full, line_effect, effect_by_link_place, made_effect, making_effect, name_effect, new_end, new_run, place_of, quiet_effect, regions_of, run_from, run_of, run_on, run_tells, run_told, unnamed_effect, with_image, without_link_effect}
 use Rattle.command_run.specs.Stores.{Answer, Told, later_told, told_answer}
 use Rattle.run_laws.proofs.CoreWalks.{FitsNamed, KeepCores, core_kept}
 
@@ -91,7 +91,7 @@ module _ (Fits : LinkAct (List ℕ) → Type 0) (L : BenchState → Type 0) (C :
   -- ---- what is done under a name
 
   module _ (answer : Answer) (run : RunState) (name : List ℕ) (wanted : NamedAct (List ℕ)) (fits : FitsNamed Fits wanted) (are : AreAll L C run.objects) where
-    core_at : (place : ℕ) (found : Option NamedCoreState) → slice_get run.objects.cores place ≡ found → LeavesRun (found_core_effect answer run name wanted place found)
+    core_at : (place : ℕ) (found : Option NamedCoreState) → slice_get run.objects.cores place ≡ found → LeavesRun (effect_of_core answer run name wanted place found)
     core_at place None none = unnamed run are name wanted
     core_at place (Some on) found = record {
       links = are.links;
@@ -100,7 +100,7 @@ module _ (Fits : LinkAct (List ℕ) → Type 0) (L : BenchState → Type 0) (C :
           (item_at (λ (named : NamedCoreState). C named.core) run.objects.cores place on found are.cores)) are.cores;
     }
 
-    core_located : (place : Option ℕ) → LeavesRun (core_located_effect answer run name wanted place)
+    core_located : (place : Option ℕ) → LeavesRun (effect_by_core_place answer run name wanted place)
     core_located None = unnamed run are name wanted
     core_located (Some place) = core_at place (slice_get run.objects.cores place) refl
 
@@ -108,7 +108,7 @@ module _ (Fits : LinkAct (List ℕ) → Type 0) (L : BenchState → Type 0) (C :
     unfolding without_link_effect
     without_link = core_located (core_place run.objects.cores name)
 
-    link_at : (place : ℕ) (found : Option NamedLink) → slice_get run.objects.links place ≡ found → LeavesRun (found_effect answer run name wanted place found)
+    link_at : (place : ℕ) (found : Option NamedLink) → slice_get run.objects.links place ≡ found → LeavesRun (effect_of_link answer run name wanted place found)
     link_at place None none = without_link
     link_at place (Some on) found = record {
       links = All-set (λ (named : NamedLink). L named.bench) run.objects.links place _
@@ -116,7 +116,7 @@ module _ (Fits : LinkAct (List ℕ) → Type 0) (L : BenchState → Type 0) (C :
       cores = are.cores;
     }
 
-    located : (place : Option ℕ) → LeavesRun (located_effect answer run name wanted place)
+    located : (place : Option ℕ) → LeavesRun (effect_by_link_place answer run name wanted place)
     located None = without_link
     located (Some place) = link_at place (slice_get run.objects.links place) refl
 
@@ -137,7 +137,7 @@ module _ (Fits : LinkAct (List ℕ) → Type 0) (L : BenchState → Type 0) (C :
       (run_tells (with_image run name (image_of lines)) (event.Image name (length (image_of lines)))) LeavesRun (λ _. are)
       (λ _. record { links = are.links; cores = are.cores })
 
-  dumped : (run : RunState) (image : List ℕ) (answered : Result (List ℕ) Event) → AreAll L C run.objects → LeavesRun (dumped_effect run image answered)
+  dumped : (run : RunState) (image : List ℕ) (answered : Result (List ℕ) Event) → AreAll L C run.objects → LeavesRun (dump_effect_of run image answered)
   dumped run image (Ok bytes) are = record { links = are.links; cores = are.cores }
   dumped run image (Err told) are = are
 

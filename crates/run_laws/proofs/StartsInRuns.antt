@@ -13,7 +13,7 @@ use Rattle.command_run.specs.NamedCores.{NamedCoreState}
 use Rattle.command_run.specs.CoreCommands.{core_act_effect, core_effect}
 use Rattle.command_run.specs.CoreEffects.{CoreEffect}
 use Rattle.command_run.specs.CoreLives.{booted_image, crash_effect, detach_effect, found_image, may_step, shutdown_effect, started_effect}
-use Rattle.command_run.specs.Runs.{RunEffect, RunState, core_located_effect, effect_of, found_core_effect, located_effect, name_effect, placed_core_effect, without_link_effect}
+use Rattle.command_run.specs.Runs.{RunEffect, RunState, effect_by_core_place, effect_of, effect_of_core, effect_by_link_place, name_effect, core_effect_at, without_link_effect}
 use Rattle.command_run.specs.Stores.{Answer}
 use Rattle.rp_base.specs.declared.kinds.CrashKind.{CrashKind}
 use Rattle.crash_recover.specs.CoreBoots.{boot_of, handover_of}
@@ -33,16 +33,16 @@ set_there (x ∷ xs) (suc i) item found is = set_there xs i item found is
 -- a core's act, by what it leaves of the core
 act_at : (answer : Answer) (run : RunState) (name : List ℕ) (place : ℕ) (on : NamedCoreState) (act : CoreAct) → IsCoreAt run name place on
     → name_effect answer run name (under.Core act)
-    ≡ placed_core_effect run place on (core_act_effect run.objects.images answer run.objects.is_quiet on run.steps act)
+    ≡ core_effect_at run place on (core_act_effect run.objects.images answer run.objects.is_quiet on run.steps act)
 unfolding name_effect without_link_effect core_effect
 act_at answer run name place on act at =
-    ap (located_effect answer run name (under.Core act)) at.unlinked
-    ∙ ap (core_located_effect answer run name (under.Core act)) at.placed
-    ∙ ap (found_core_effect answer run name (under.Core act) place) at.found
+    ap (effect_by_link_place answer run name (under.Core act)) at.unlinked
+    ∙ ap (effect_by_core_place answer run name (under.Core act)) at.placed
+    ∙ ap (effect_of_core answer run name (under.Core act) place) at.found
 
 -- the state of the core behind it
 state_behind : (run : RunState) (name : List ℕ) (place : ℕ) (on : NamedCoreState) (effect : CoreEffect) → IsCoreAt run name place on
-    → state_at (placed_core_effect run place on effect).run place ≡ Some effect.core.life.state
+    → state_at (core_effect_at run place on effect).run place ≡ Some effect.core.life.state
 state_behind run name place on effect at =
     ap (option_map (λ (on : NamedCoreState). on.core.life.state)) (set_there run.objects.cores place (record on { core = effect.core }) on at.found)
 
@@ -84,7 +84,7 @@ hands_over_in_run answer run name image place on at offline =
 -- ---- the core behind each call
 
 pub core_behind : (run : RunState) (name : List ℕ) (place : ℕ) (on : NamedCoreState) (effect : CoreEffect) → IsCoreAt run name place on
-    → core_at (placed_core_effect run place on effect).run place ≡ Some effect.core
+    → core_at (core_effect_at run place on effect).run place ≡ Some effect.core
 core_behind run name place on effect at =
     ap (option_map (λ (on : NamedCoreState). on.core)) (set_there run.objects.cores place (record on { core = effect.core }) on at.found)
 

@@ -4,3 +4,4 @@ pub mod Starts
 pub mod ClosedLinks
 pub mod CrashedCores
 pub mod DriveEnds
+pub mod Reopenings

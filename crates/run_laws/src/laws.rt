@@ -1,6 +1,6 @@
 //! Laws of runs: over a store of images, and of the links that they leave. Each is the contract of an empty function, and speaks of definitions alone.
 
-ghost use Rattle.std.specs.Prelude.{◌≡◌, ◌≢◌, ◌↔◌, ℕ, List, Option, Some, false, Contains, IfSome, IsSomeAnd, slice_get};
+ghost use Rattle.std.specs.Prelude.{◌≡◌, ◌≢◌, ◌↔◌, ◌+◌, ℕ, List, Option, Some, Ok, false, true, Contains, IfSome, IsSomeAnd, slice_get};
 ghost use Rattle.rp_base.specs.declared.kinds.LifeState.TheVariants as state;
 ghost use Rattle.proc_state.specs.Lives.{most};
 ghost use Rattle.core_laws.specs.FoundImages.{FindsLoadable};
@@ -26,7 +26,10 @@ ghost use Rattle.run_laws.specs.Starts.{IsCoreAt, core_at, state_at};
 ghost use Rattle.script_lang.specs.Runnable.{AreRunnable, IsRunnable};
 ghost use Rattle.lane_model.specs.Soundness.{SoundLink};
 ghost use Rattle.link_bench.specs.Benches.{BenchState, link_in};
-ghost use Rattle.run_laws.specs.Kept.{AreKept, AreReady};
+ghost use Rattle.run_laws.specs.Kept.{AreKept, AreReady, HaveSoundRegions};
+ghost use Rattle.run_laws.specs.Reopenings.{IsLeftByReopen, IsLinkAt};
+ghost use Rattle.core_laws.specs.Beginnings.{BeginsLife, begins_life};
+ghost use Rattle.crash_recover.specs.declared.core_answers.Start.{Start};
 ghost use Rattle.command_run.specs.NamedCores.{NamedCoreState};
 ghost use Rattle.link_commands.specs.NamedLinks.{NamedLink};
 ghost use Rattle.run_laws.specs.Reached.{AreReached, HandsInOrder};
@@ -102,6 +105,24 @@ pub fn starts_just_where()
         → (state_at (effect_of answer run (command.Boot name image)).run place ≡ Some state.Attached) ↔ (on.core.life.incarnation ≢ most) }
 {}
 
+/// A `reopen` of the link of a name in a run leaves at its place a link of that name: where nothing refuses it, one that is live and empty on both lanes
+/// in its next incarnation, and else the link as it was.
+pub fn links_reopen_next()
+    ensures { (answer : Answer) (run : RunState) (name : List ℕ) (place : ℕ) (on : NamedLink) → IsLinkAt run name place on
+        → IsSomeAnd (slice_get (effect_of answer run (command.Reopen name)).run.objects.links place) (IsLeftByReopen name on.bench) }
+{}
+
+/// Where a boot, which may be an attach, or a recovery of the core of a name in a run begins a life, it leaves at its place a core in the next
+/// incarnation of its life, whose link, if it has one, is in that incarnation too, live and empty on both lanes.
+pub fn lives_begin_next()
+    ensures boot { (answer : Answer) (run : RunState) (name : List ℕ) (place : ℕ) (on : NamedCoreState) → IsCoreAt run name place on → (image : List ℕ) (did : Start)
+        → begins_life did ≡ true → (boot_of on.core image (found_image run.objects.images answer image)).answer ≡ Ok did
+        → IsSomeAnd (core_at (effect_of answer run (command.Boot name image)).run place) (BeginsLife (on.core.life.incarnation + 1)) }
+    ensures recovery { (answer : Answer) (run : RunState) (name : List ℕ) (place : ℕ) (on : NamedCoreState) → IsCoreAt run name place on → AreKept run.objects → (did : Start)
+        → begins_life did ≡ true → (recovery_of on.core (found_image run.objects.images answer (booted_image on.name on.core))).answer ≡ Ok did
+        → IsSomeAnd (core_at (effect_of answer run (command.Recover name)).run place) (BeginsLife (on.core.life.incarnation + 1)) }
+{}
+
 /// From a close of a link on, no command of a script but a reopening of that link hands anything over on it or opens it: the link at a place of a run
 /// that is closed stands closed at that place behind the command, with nothing more handed over on either lane.
 pub fn closed_hands_none()
@@ -123,6 +144,13 @@ pub fn crashed_hands_none()
 pub fn cores_kept()
     ensures command { (answer : Answer) (run : RunState) (command : Command) → AreKept run.objects → AreKept (effect_of answer run command).run.objects }
     ensures run { (told : Told) (commands : List Command) → AreKept (run_of told commands).last.objects }
+{}
+
+/// After each list of commands the regions of each core are sound: at most 16, of at most 16 MiB together, each within the addresses, and no two meet.
+/// So what is known of loads over sound regions holds of the cores of runs.
+pub fn regions_sound()
+    ensures command { (answer : Answer) (run : RunState) (command : Command) → HaveSoundRegions run.objects → HaveSoundRegions (effect_of answer run command).run.objects }
+    ensures run { (told : Told) (commands : List Command) → HaveSoundRegions (run_of told commands).last.objects }
 {}
 
 /// The actors of each core hold, while the core is up, what their calls give back, so that the next call of each may always begin, and have begun

@@ -30,7 +30,7 @@ use Rattle.command_run.specs.declared.faults.OutputFault.TheVariants as output_f
 use Rattle.command_run.specs.Stores.{IsHeld, IsTold, Told, store_of}
 use Rattle.command_run.specs.Runs.{ObjectsState, new_run, run_of}
 use Rattle.script_run.specs.Outputs.{Form, other, run, check, demo, storm, audit, Output, audit_output, storm_output, fails_in, too_long_output, usage_output, run_output, script_output, stop_output, transcript_output, report_output, store_fault_output}
-use Rattle.script_run.specs.Reports.{check_report, fetched_report}
+use Rattle.script_run.specs.Reports.{check_report, report_of_fetch}
 use Rattle.script_run.specs.Demos.{accepted_from, commands_output, counted_output, demo_output}
 use Rattle.script_run.specs.Told.{RunWrites}
 use Rattle.command_run.proofs.Handed.{front_of_none}
@@ -113,7 +113,7 @@ some_run None images =
 some_run (Some bytes) images = some_script images bytes
 
 some_report : (images : Option (List (List ℕ × List ℕ))) (name : List ℕ) → (output : Output) × IsReportOutput images name output
-some_report None name = (report_output (fetched_report name (Err fetch_fault.Missing)), (Err fetch_fault.Missing, tt, refl))
+some_report None name = (report_output (report_of_fetch name (Err fetch_fault.Missing)), (Err fetch_fault.Missing, tt, refl))
 some_report (Some images) name = (report_output (check_report images name), refl)
 
 -- and of an audit
@@ -429,7 +429,7 @@ loads_well true = refl
 loads_well false = refl
 
 report_well : (images : Option (List (List ℕ × List ℕ))) (name : List ℕ) (output : Output) → IsReportOutput images name output → is_store_fault output.status ≡ false
-report_well None name output is = ap (λ (o : Output). is_store_fault o.status) is.2 ∙ loads_well (fetched_report name is.0).loads
+report_well None name output is = ap (λ (o : Output). is_store_fault o.status) is.2 ∙ loads_well (report_of_fetch name is.0).loads
 report_well (Some images) name output is = ap (λ (o : Output). is_store_fault o.status) is ∙ loads_well (check_report images name).loads
 
 -- nor a demo, which runs over an empty store

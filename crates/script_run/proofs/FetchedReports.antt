@@ -9,7 +9,7 @@ use Rattle.journal.specs.Notices.{report_text}
 use Rattle.image_report.specs.declared.reports.ImageReport.{ImageReport}
 use Rattle.script_run.specs.declared.statuses.Status.TheVariants as status
 use Rattle.image_report.specs.Reports.{IsImageReport, Report, image_report, refusal}
-use Rattle.script_run.specs.Reports.{fetched_report}
+use Rattle.script_run.specs.Reports.{report_of_fetch}
 use Rattle.script_run.specs.Outputs.{Output, report_output}
 use Rattle.script_run.specs.Endings.{IsReportOutput}
 use Rattle.script_run.specs.ImageReports.{made_output}
@@ -31,19 +31,19 @@ module _ (images : Option (List (List ℕ × List ℕ))) (name word : List ℕ) 
 found_output : (images : Option (List (List ℕ × List ℕ))) (word : List ℕ) (image : Vec ℕ Global) → IsFetched images word (Ok image)
     → IsReportOutput images word (report_output (image_report image.items))
 found_output None word image fetched = (Ok image.items, tt, refl)
-found_output (Some images) word image fetched = sym (ap (λ answer. report_output (fetched_report word answer)) fetched)
+found_output (Some images) word image fetched = sym (ap (λ answer. report_output (report_of_fetch word answer)) fetched)
 
 -- no image
 missing_output : (images : Option (List (List ℕ × List ℕ))) (word : List ℕ) → IsFetched images word (Err fetch_fault.Missing)
     → IsReportOutput images word (report_output (refusal (notice.Missing word)))
 missing_output None word fetched = (Err fetch_fault.Missing, tt, refl)
-missing_output (Some images) word fetched = sym (ap (λ answer. report_output (fetched_report word answer)) fetched)
+missing_output (Some images) word fetched = sym (ap (λ answer. report_output (report_of_fetch word answer)) fetched)
 
 -- one that is too large
 too_large_output : (images : Option (List (List ℕ × List ℕ))) (word : List ℕ) (bytes : ℕ) → IsFetched images word (Err (fetch_fault.TooLarge bytes))
     → IsReportOutput images word (report_output (refusal (notice.TooLarge word)))
 too_large_output None word bytes fetched = (Err (fetch_fault.TooLarge bytes), tt, refl)
-too_large_output (Some images) word bytes fetched = sym (ap (λ answer. report_output (fetched_report word answer)) fetched)
+too_large_output (Some images) word bytes fetched = sym (ap (λ answer. report_output (report_of_fetch word answer)) fetched)
 
 module _ (images : Option (List (List ℕ × List ℕ))) (name word : List ℕ) (same : name ≡ word) (made : ImageReport) where
   -- the report of an image that was fetched

@@ -17,7 +17,7 @@ use Rattle.command_run.specs.Runs.{AsksNone, new_run}
 use Rattle.command_run.specs.Stores.{IsAnswer, IsHeld, IsTold, Told, store_of}
 use Rattle.storm_run.specs.declared.plans.Plan.{Plan}
 use Rattle.script_run.specs.Outputs.{Form, other, run, check, demo, storm, audit, Output, usage_output, run_output, script_output, fails_in, report_output, storm_output, audit_output, too_long_output, read_fault_output, store_fault_output}
-use Rattle.script_run.specs.Reports.{fetched_report, check_report}
+use Rattle.script_run.specs.Reports.{report_of_fetch, check_report}
 use Rattle.script_run.specs.Demos.{demo_output}
 
 -- what the devices hold, where they tell it, and their counts of faults
@@ -84,7 +84,7 @@ IsRunOutput left images output = OfSource left (λ bytes. IsScriptOutput images 
 -- the report of an image; of a store that doesn't tell, that of some answer
 abbrev pub IsReportOutput : Option (List (List ℕ × List ℕ)) → List ℕ → Output → Type 0
 IsReportOutput None name output =
-    (answer : Result (List ℕ) FetchFault) × IsAnswer answer × (output ≡ report_output (fetched_report name answer))
+    (answer : Result (List ℕ) FetchFault) × IsAnswer answer × (output ≡ report_output (report_of_fetch name answer))
 IsReportOutput (Some images) name output = output ≡ report_output (check_report images name)
 
 -- the output of an audit of a transcript, which is refused where it is too long

@@ -7,13 +7,13 @@ use Rattle.journal.specs.declared.notices.Notice.TheVariants as notice
 use Rattle.image_report.specs.Reports.{Report, image_report, refusal}
 
 -- the report of what a store has under a name; its faults and want of memory are no such answers, and have no report of their own
-abbrev pub fetched_report : List ℕ → Result (List ℕ) FetchFault → Report
-fetched_report name (Ok image) = image_report image
-fetched_report name (Err fetch_fault.Missing) = refusal (notice.Missing name)
-fetched_report name (Err fetch_fault.Failed) = refusal notice.StoreFault
-fetched_report name (Err (fetch_fault.TooLarge bytes)) = refusal (notice.TooLarge name)
-fetched_report name (Err fetch_fault.NoMemory) = refusal notice.StoreFault
+abbrev pub report_of_fetch : List ℕ → Result (List ℕ) FetchFault → Report
+report_of_fetch name (Ok image) = image_report image
+report_of_fetch name (Err fetch_fault.Missing) = refusal (notice.Missing name)
+report_of_fetch name (Err fetch_fault.Failed) = refusal notice.StoreFault
+report_of_fetch name (Err (fetch_fault.TooLarge bytes)) = refusal (notice.TooLarge name)
+report_of_fetch name (Err fetch_fault.NoMemory) = refusal notice.StoreFault
 
 -- the report of `check` over a store of these images, each with its name
 abbrev pub check_report : List (List ℕ × List ℕ) → List ℕ → Report
-check_report images name = fetched_report name (fetch_answer images name)
+check_report images name = report_of_fetch name (fetch_answer images name)

@@ -1,22 +1,17 @@
 -- The rings of the link of a core are sound: it is made over rings of a sound table, and each change keeps them.
 use Rattle.channel_bus.specs.Sides.{side_meaning}
 use Rattle.core_laws.proofs.CoreMoves.{reached_stays}
+use Rattle.core_laws.proofs.DriveWalks.{AreKeptParts, drive_kept}
 use Rattle.core_laws.proofs.Outcomes.{IsLoadOf, Stays, none_mapped, report_left}
 use Rattle.core_laws.specs.BenchMoves.{IsReachedBench, IsReachedCore}
 use Rattle.crash_recover.proofs.Loads.{pair_config}
 use Rattle.core_actors.specs.Actors.{driver_names}
 use Rattle.crash_recover.specs.CoreActs.{act_on_core, core_act_on}
 use Rattle.crash_recover.specs.CoreBoots.{Found, core_bench, fresh_end, image_fault, load_in, load_of, started_core}
-use Rattle.crash_recover.specs.CoreCrashes.{crashed_core, report_of}
+use Rattle.crash_recover.specs.CoreCrashes.{after_report, crashed_core}
 use Rattle.crash_recover.specs.Cores.{CoreState, LoadState, loaded_rings, new_core}
 use Rattle.core_actors.specs.ActorEnds.{actors_after_end}
-use Rattle.core_actors.specs.ActorSteps.{has_calls}
-use Rattle.crash_recover.specs.Drives.{DriveStep, actor_step, actor_to_step, core_with_report, drive_step, host_step, is_idle, record_run, record_step, with_turn_after, worker_call}
-use Rattle.core_actors.specs.declared.actors.Actor.{Actor}
-use Rattle.core_actors.specs.declared.actors.Actor.TheVariants as actor
-use Rattle.core_actors.specs.declared.progress.Driven.{Driven}
-use Rattle.core_actors.specs.declared.progress.Driven.TheVariants as driven
-use Rattle.crash_recover.specs.declared.core_faults.AddFault.TheVariants as add
+use Rattle.crash_recover.specs.Drives.{drive_step}
 use Rattle.crash_recover.specs.declared.core_faults.CoreFault.TheVariants as fault
 use Rattle.fw_load.proofs.Steps.{pair_sound}
 use Rattle.fw_load.specs.Loading.{Loads, load_fault}
@@ -32,14 +27,11 @@ use Rattle.link_bench.specs.Benches.{BenchState}
 use Rattle.link_bench.specs.declared.acts.LinkAct.{LinkAct}
 use Rattle.load_laws.proofs.LoadParts.{parts_fit, placed_is_sound, table_good}
 use Rattle.load_laws.proofs.PatchParts.{placed_good}
-use Rattle.memory_pool.proofs.RegionsSound.{added_sound}
-use Rattle.memory_pool.specs.Regions.{region_fault}
-use Rattle.memory_pool.specs.Soundness.{IsRange, SoundRegions}
+use Rattle.memory_pool.specs.Soundness.{SoundRegions}
 use Rattle.memory_pool.specs.declared.faults.PlaceFault.{PlaceFault}
 use Rattle.memory_pool.specs.declared.blocks.Block.{Block}
 use Rattle.memory_pool.specs.declared.regions.Region.{Region}
-use Rattle.rp_base.specs.declared.kinds.RegionKind.TheVariants.{Pool, Tcm}
-use Rattle.proc_state.specs.Lives.{CoreLife, is_offline}
+use Rattle.proc_state.specs.Lives.{CoreLife}
 use Rattle.resource_table.proofs.Devices.{sound_entry}
 use Rattle.resource_table.proofs.Sound.{length-entries_of}
 use Rattle.resource_table.specs.Entries.{entries_of, entry_at, entry_count, start_of}
@@ -48,10 +40,10 @@ use Rattle.resource_table.specs.declared.entries.Entry.{Entry}
 use Rattle.resource_table.specs.declared.entries.Entry.TheVariants as entry
 use Rattle.resource_table.specs.declared.entries.Vdev.{Vdev}
 use Rattle.run_laws.proofs.CoreWalks.{FitsNamed, KeepCores, core_kept}
+use Rattle.run_laws.proofs.RegionsSound.{first_sound, more_sound}
 use Rattle.run_laws.proofs.RunsReached.{cores_reached}
 use Rattle.script_lang.specs.Runnable.{IsBook}
 use Rattle.script_lang.specs.declared.commands.RegionSet.{RegionSet}
-use Rattle.script_lang.specs.declared.commands.RegionSet.TheVariants as regions
 use Rattle.command_run.specs.CoreCommands.{core_effect}
 use Rattle.command_run.specs.NamedCores.{NamedCoreState}
 use Rattle.command_run.specs.NamedImages.{ImageState}
@@ -59,8 +51,7 @@ use Rattle.command_run.specs.Runs.{regions_of}
 use Rattle.command_run.specs.Stores.{Answer}
 use Rattle.link_commands.specs.declared.acts.NamedAct.{NamedAct}
 use Rattle.std.proofs.Common.{inl, inr, Bool, Err, IfSome, List, None, Ok, Option, Result, Some, [], ap, arith, cond, false, is_some, map, option_map, refl, subst, suc, sym, true, zero, ℕ, ◌+◌, ◌<◌, ◌==◌, ◌∷◌, ◌≡◌, ◌≤◌, ◌∙◌}
-use Rattle.std.proofs.lemmas.Bool.{cond_both, eqb-true, true≢false}
-use Rattle.std.proofs.lemmas.List.Elements.{All-nil}
+use Rattle.std.proofs.lemmas.Bool.{eqb-true, true≢false}
 use Rattle.std.specs.List.{range_with_len}
 use Rattle.std.specs.Option.{unwrap_or}
 use Rattle.std.specs.Result.{result_ok}
@@ -185,38 +176,21 @@ module _ (core : CoreState) (is : IsRungCore core) where
 
 -- ---- steps of the actors
 
-host_load : (core : CoreState) (found : Option BenchState) → IsFitLoad core → IsFitLoad (host_step core found).core
-host_load core None is = is
-host_load core (Some bench) is = record { book = is.book; regions = is.regions; rings = is.rings }
-
-call_load : (core : CoreState) (found : Option BenchState) → IsFitLoad core → IsFitLoad (worker_call core found).core
-call_load core None is = is
-call_load core (Some bench) is = record { book = is.book; regions = is.regions; rings = is.rings }
-
-run_load : (core : CoreState) (loaded : Option LoadState) → core.loaded ≡ loaded → IsFitLoad core → IsFitLoad (record_run core loaded).core
-run_load core None same is = is
-run_load core (Some load) same is = record { book = is.book; regions = is.regions; rings = subst (λ (loaded : Option LoadState). IfSome (loaded_rings loaded) IsSoundPair) same is.rings }
-
-report_load : (core : CoreState) → IsFitLoad core → IsFitLoad (report_of true core).core
+report_load : (core : CoreState) → IsFitLoad core → IsFitLoad (after_report core)
 report_load core is = report_left IsFitLoad true core is (λ life stops. record { book = is.book; regions = is.regions; rings = is.rings })
 
-reported_load : (came : Driven) (core : CoreState) → IsFitLoad core → IsFitLoad (core_with_report came core)
-reported_load driven.Idle core is = is
-reported_load driven.Stepped core is = is
-reported_load (driven.Ended caller end) core is = is
-reported_load (driven.Worker why closed) core is = report_load core is
-reported_load (driven.Crashed kind closed) core is = report_load core is
-
-actor_load : (who : Actor) (core : CoreState) → IsFitLoad core → IsFitLoad (actor_step who core).core
-actor_load actor.Host core is = host_load core core.bench is
-actor_load actor.Worker core is =
-    cond_both (has_calls core.bench core.actors) (worker_call core core.bench) (record_step core) (λ (step : DriveStep). IsFitLoad step.core)
-    (λ _. call_load core core.bench is) (λ _. reported_load (record_run core core.loaded).driven (record_run core core.loaded).core (run_load core core.loaded refl is))
+load_parts : AreKeptParts IsFitLoad
+load_parts = record {
+  turn = λ who core is. record { book = is.book; regions = is.regions; rings = is.rings };
+  host = λ core bench there is. record { book = is.book; regions = is.regions; rings = is.rings };
+  call = λ core bench there is. record { book = is.book; regions = is.regions; rings = is.rings };
+  run = λ core load there silent is. record { book = is.book; regions = is.regions; rings = subst (λ (loaded : Option LoadState). IfSome (loaded_rings loaded) IsSoundPair) there is.rings };
+  report = report_load;
+}
 
 drive_rung : (core : CoreState) → IsReachedCore core → IsRungCore core → IsRungCore (drive_step core).core
 drive_rung core reached is = record {
-  load = cond_both (is_idle core) _ _ (λ (step : DriveStep). IsFitLoad step.core) (λ _. is.load)
-      (λ _. actor_load (actor_to_step core) (with_turn_after (actor_to_step core) core) (record { book = is.load.book; regions = is.load.regions; rings = is.load.rings }));
+  load = drive_kept IsFitLoad load_parts core is.load;
   bench = rung_if core.bench (drive_deeds core) (drive_step core).core.bench (drive_lands core reached) is.bench;
 }
 
@@ -271,11 +245,6 @@ rung_stays = record {
   };
 }
 
--- no region is refused where the core is offline and the region fits beside the others
-region_fits : (regions : List Region) (region : Region) (offline : Bool) → cond offline (option_map add.Region (region_fault regions region)) (Some add.NotOffline) ≡ None → region_fault regions region ≡ None
-region_fits regions region true none = none_mapped add.Region (region_fault regions region) none
-region_fits regions region false none = absurd (true≢false (ap is_some none))
-
 rung_cores : KeepCores IsFitAct IsReachedRung
 rung_cores = record {
   region = λ core region clear is. record {
@@ -283,7 +252,7 @@ rung_cores = record {
     rung = record {
       load = record {
         book = is.rung.load.book;
-        regions = added_sound core.regions region is.rung.load.regions (region_fits core.regions region (is_offline core.life.state) clear);
+        regions = more_sound core region clear is.rung.load.regions;
         rings = is.rung.load.rings;
       };
       bench = is.rung.bench;
@@ -303,20 +272,6 @@ pub core_rung : (images : List ImageState) (answer : Answer) (on : NamedCoreStat
 core_rung images answer on steps reached is is_quiet wanted fits =
     (core_kept IsFitAct IsReachedRung rung_cores images answer is_quiet on steps wanted fits (record { reached = reached; rung = is })).rung
 
--- no regions are sound, and so are the standard ones
-no_regions : SoundRegions []
-no_regions = record { few = omega arith; small = omega arith; ranges = All-nil (λ (region : Region). IsRange region.da region.pa region.len); apart = λ i j d less among. absurd (omega (arith, less, among)) }
-
-abbrev tcm : Region
-tcm = record { kind = Tcm; da = 0; pa = 0x20000000; len = 65536 }
-
-abbrev pool : Region
-pool = record { kind = Pool; da = 0x10000000; pa = 0x30000000; len = 1048576 }
-
-regions_sound : (set : RegionSet) → SoundRegions (regions_of set)
-regions_sound regions.Standard = added_sound (tcm ∷ []) pool (added_sound [] tcm no_regions refl) refl
-regions_sound regions.Bare = no_regions
-
 -- a core that a script makes
 pub new_core_rung : (set : RegionSet) (book : ℕ) → IsBook book → IsRungCore (new_core (regions_of set) [] book)
-new_core_rung set book fit = record { load = record { book = fit; regions = regions_sound set; rings = tt }; bench = tt }
+new_core_rung set book fit = record { load = record { book = fit; regions = first_sound set; rings = tt }; bench = tt }

@@ -51,7 +51,7 @@ use Rattle.link_commands.specs.declared.acts.NamedAct.{NamedAct}
 use Rattle.link_commands.specs.declared.acts.NamedAct.TheVariants as under
 use Rattle.link_commands.specs.declared.acts.StartAct.{StartAct}
 use Rattle.link_commands.specs.declared.acts.StartAct.TheVariants as starts
-use Rattle.command_run.specs.CoreCommands.{added_effect, core_act_effect, core_effect, declared_effect, driver_effect, region_effect}
+use Rattle.command_run.specs.CoreCommands.{added_effect, core_act_effect, core_effect, driver_effect_unless, driver_effect, region_effect}
 use Rattle.command_run.specs.CoreDrives.{drive_effect, drive_steps, rest_event, rests_or, step_then}
 use Rattle.command_run.specs.CoreEffects.{CoreEffect, core_tells}
 use Rattle.command_run.specs.CoreLinks.{core_link_effect}
@@ -64,6 +64,7 @@ use Rattle.act_laws.specs.Accounts.{Account}
 use Rattle.way_laws.specs.CoreAccounts.{begun_account, core_account_after, core_act_deeds, deed_account, drive_account, left_account, life_account, ready_if, recovery_account, started_account, unless_some}
 use Rattle.act_laws.specs.CoreDeeds.{drive_deeds}
 use Rattle.act_laws.specs.Deeds.{Deeds, no_deeds}
+use Rattle.act_laws.proofs.CalmDeeds.{IsCalm, Open, Silent, act_open, drive_calm, ready_open, reported_none}
 use Rattle.act_laws.proofs.CoreLands.{LandsIf, drive_lands, ready_lands, report_lands}
 use Rattle.act_laws.proofs.Lands.{both_if}
 use Rattle.act_laws.proofs.ReachedActs.{deeds_land}
@@ -76,13 +77,13 @@ TaleIf end None (Some account) = ⊥
 TaleIf end (Some bench) None = ⊥
 TaleIf end (Some bench) (Some account) = IsTale end bench account
 
-deeds_if : (end : End) (found : Option BenchState) (account : Option Account) (deeds : Deeds) (now : Option BenchState) → TaleIf end found account → LandsIf found deeds now → TaleIf end now (deed_account end found deeds account)
-deeds_if end None None deeds None is lands = tt
-deeds_if end None None deeds (Some now) is lands = absurd lands
-deeds_if end None (Some account) deeds now is lands = absurd is
-deeds_if end (Some bench) None deeds now is lands = absurd is
-deeds_if end (Some bench) (Some account) deeds None is lands = absurd lands
-deeds_if end (Some bench) (Some account) deeds (Some now) is lands = deeds_kept end bench account is deeds now lands
+deeds_if : (end : End) (found : Option BenchState) (account : Option Account) (deeds : Deeds) (now : Option BenchState) → TaleIf end found account → IsCalm end deeds → LandsIf found deeds now → TaleIf end now (deed_account end found deeds account)
+deeds_if end None None deeds None is calm lands = tt
+deeds_if end None None deeds (Some now) is calm lands = absurd lands
+deeds_if end None (Some account) deeds now is calm lands = absurd is
+deeds_if end (Some bench) None deeds now is calm lands = absurd is
+deeds_if end (Some bench) (Some account) deeds None is calm lands = absurd lands
+deeds_if end (Some bench) (Some account) deeds (Some now) is calm lands = deeds_kept end bench account is deeds calm now lands
 
 -- ---- new links
 
@@ -177,6 +178,10 @@ module _ (end : End) (core : CoreState) (account : Option Account) (is : TaleIf 
   ready_lands_if None = tt
   ready_lands_if (Some bench) = ready_lands bench
 
+  ready_calm : (found : Option BenchState) → IsCalm end (ready_if found)
+  ready_calm None = Open tt
+  ready_calm (Some bench) = Open (ready_open bench)
+
   again_begun : (found : Option BenchState) → IfSome (option_map (λ (bench : BenchState). after_reopen (bench_to_reopen bench)) found) IsBegun
   again_begun None = tt
   again_begun (Some bench) = record {
@@ -200,7 +205,7 @@ module _ (end : End) (core : CoreState) (account : Option Account) (is : TaleIf 
       unless_life (recovery_fault core.life) _ _
       (unless_fault core account (reload_fault core found) _ _ is
       (unless_fault (core_to_reopen core) (deed_account end core.bench (ready_if core.bench) account) (reopen_fault core) _ _
-      (deeds_if end core.bench account (ready_if core.bench) (option_map bench_to_reopen core.bench) is (ready_lands_if core.bench))
+      (deeds_if end core.bench account (ready_if core.bench) (option_map bench_to_reopen core.bench) is (ready_calm core.bench) (ready_lands_if core.bench))
       (begun_if end (after_recovery core (load_in core found)).bench (again_begun core.bench))))
 
 -- ---- drives
@@ -220,7 +225,7 @@ driven_tale end (suc more) name is_quiet core steps account reached is =
     (step_then name is_quiet (drive_step core) (λ next. drive_steps more name is_quiet next (steps + 1))) account
     (drive_account end more name (drive_step core).core (steps + 1) (deed_account end core.bench (drive_deeds core) account)) is
     (driven_tale end more name is_quiet (drive_step core).core (steps + 1) (deed_account end core.bench (drive_deeds core) account) (core_driven core reached)
-    (deeds_if end core.bench account (drive_deeds core) (drive_step core).core.bench is (drive_lands core reached))))
+    (deeds_if end core.bench account (drive_deeds core) (drive_step core).core.bench is (drive_calm end core) (drive_lands core reached))))
 
 drive_tale : (end : End) (name : List ℕ) (is_quiet : Bool) (core : CoreState) (steps count : ℕ) (account : Option Account) → IsReachedCore core → TaleIf end core.bench account
     → TaleIf end (drive_effect name is_quiet core steps count).core.bench (cond (is_up core.life.state) (drive_account end count name core steps account) account)
@@ -235,6 +240,10 @@ act_lands_if : (core : CoreState) (steps : ℕ) (asked : LinkAct (List ℕ)) (fo
     → LandsIf found (core_act_deeds core found steps asked) (core_act_on core steps asked found).core.bench
 act_lands_if core steps asked None none fit reached = subst (λ (now : Option BenchState). LandsIf None no_deeds now) (sym none) tt
 act_lands_if core steps asked (Some bench) found fit reached = deeds_land actors_after_end 2 bench core.actors steps asked fit reached
+
+act_calm : (end : End) (core : CoreState) (steps : ℕ) (asked : LinkAct (List ℕ)) (found : Option BenchState) → IsCalm end (core_act_deeds core found steps asked)
+act_calm end core steps asked None = Open tt
+act_calm end core steps asked (Some bench) = Open (act_open actors_after_end 2 bench core.actors steps asked)
 
 pub link_effect_bench : (name : List ℕ) (core : CoreState) (steps : ℕ) (asked : LinkAct (List ℕ)) (found : Option BenchState) → (core_link_effect name core steps asked found).core ≡ (core_act_on core steps asked found).core
 unfolding core_link_effect
@@ -256,7 +265,7 @@ module _ (end : End) (images : List ImageState) (answer : Answer) (on : NamedCor
   unfolding region_effect
   region_same region = added region (add_fault on.core region)
 
-  declared : (channel : List ℕ) (kind : DriverKind) (why : Option AddFault) → Same (declared_effect on.name on.core steps channel kind why)
+  declared : (channel : List ℕ) (kind : DriverKind) (why : Option AddFault) → Same (driver_effect_unless on.name on.core steps channel kind why)
   declared channel kind None = is
   declared channel kind (Some why) = is
 
@@ -291,7 +300,7 @@ module _ (end : End) (images : List ImageState) (answer : Answer) (on : NamedCor
 
   crash_on : (kind : CrashKind) → TaleIf end (crash_effect on.name on.core steps kind).core.bench (life_account end images answer on steps (act.Crash kind) account)
   unfolding crash_effect
-  crash_on kind = deeds_if end on.core.bench account _ (report_of (may_step steps) on.core).core.bench is (report_lands (may_step steps) on.core)
+  crash_on kind = deeds_if end on.core.bench account _ (report_of (may_step steps) on.core).core.bench is (Silent (reported_none end (report_of (may_step steps) on.core).answer on.core.bench)) (report_lands (may_step steps) on.core)
 
   core_act_tale : (is_quiet : Bool) (asked : CoreAct) → IsReachedCore on.core → TaleIf end (core_act_effect images answer is_quiet on steps asked).core.bench (life_account end images answer on steps asked account)
   unfolding core_act_effect
@@ -309,7 +318,7 @@ module _ (end : End) (images : List ImageState) (answer : Answer) (on : NamedCor
       → TaleIf end (core_link_effect on.name on.core steps asked on.core.bench).core.bench (deed_account end on.core.bench (core_act_deeds on.core on.core.bench steps asked) account)
   linked_tale asked fit reached =
       subst (λ (core : CoreState). TaleIf end core.bench (deed_account end on.core.bench (core_act_deeds on.core on.core.bench steps asked) account)) (sym (link_effect_bench on.name on.core steps asked on.core.bench))
-      (deeds_if end on.core.bench account _ (core_act_on on.core steps asked on.core.bench).core.bench is
+      (deeds_if end on.core.bench account _ (core_act_on on.core steps asked on.core.bench).core.bench is (act_calm end on.core steps asked on.core.bench)
       (act_lands_if on.core steps asked on.core.bench refl fit reached.bench))
 
   pub core_tale : (is_quiet : Bool) (wanted : NamedAct (List ℕ)) → FitsNamed IsFitAct wanted → IsReachedCore on.core

@@ -1,33 +1,24 @@
 -- What a step of a core's actors tells of takes is by the call that it ended.
-use Rattle.std.proofs.Common.{◌≡◌, ℕ, zero, suc, ◌+◌, ◌++◌, ◌==◌, Bool, true, false, [], Option, Some, None, is_some, Result, Ok, Err, refl}
+use Rattle.std.proofs.Common.{◌≡◌, ℕ, Bool, true, false, Option, Some, None, is_some, refl}
 use Rattle.std.specs.Prelude.{if◌then◌else◌}
 use Rattle.rp_base.specs.declared.kinds.End.{End}
-use Rattle.rp_base.specs.declared.kinds.End.TheVariants as side
-use Rattle.rp_base.specs.declared.limits.TheConstants.{CALLERS_MOST}
-use Rattle.proc_state.specs.declared.answers.LifeFault.{LifeFault}
 use Rattle.lane_model.specs.declared.calls.Wish.{Wish}
-use Rattle.lane_model.specs.Lanes.{holder}
-use Rattle.lane_model.specs.Links.{end_of}
-use Rattle.lane_laws.specs.Moves.{Close, Enlist, Reclaim}
 use Rattle.remote_core.specs.declared.workers.Work.{Work}
 use Rattle.remote_core.specs.declared.workers.Work.TheVariants as work
 use Rattle.remote_core.specs.Works.{work_of}
 use Rattle.link_bench.specs.declared.benches.BegunCall.{BegunCall}
 use Rattle.link_bench.specs.declared.benches.Reach.{Reach}
 use Rattle.link_bench.specs.declared.benches.Reach.TheVariants as reach
-use Rattle.link_bench.specs.BenchCrashes.{after_close}
-use Rattle.link_bench.specs.BenchEnds.{is_first, is_remote, without_one, without_other}
 use Rattle.link_bench.specs.Benches.{BenchState, BenchWalk, advance_steps, advance_walk, begin_fault, begun_call_of, is_in_call, link_in, start_walk}
 use Rattle.core_actors.specs.declared.actors.Actor.{Actor}
 use Rattle.core_actors.specs.declared.actors.Actor.TheVariants as actor
 use Rattle.core_actors.specs.ActorSteps.{begun_step, drive_of_reach, drive_of_work, first_or_take, has_calls, link_step}
-use Rattle.crash_recover.specs.declared.core_answers.Crash.{Crash}
-use Rattle.crash_recover.specs.declared.core_answers.Crash.TheVariants as crash
 use Rattle.crash_recover.specs.CoreCrashes.{report_of}
 use Rattle.crash_recover.specs.Cores.{CoreState, LoadState}
 use Rattle.crash_recover.specs.Drives.{DriveStep, actor_step, actor_to_step, after_record, core_with_report, drive_step, driven_with_report, host_step, is_idle, placed_map, record_run, record_step, step_with_report, with_turn_after, worker_call}
-use Rattle.act_laws.specs.CoreDeeds.{actor_deeds, actor_link_deeds, begun_deeds, crash_deeds, drive_deeds, driven_takes, link_deeds, one_remote, other_deeds, others_deeds, record_deeds, remote_deeds, reported_deeds}
-use Rattle.act_laws.specs.Deeds.{Deeds, advance_deeds, deeds_then, no_deeds, one_move, reach_takes}
+use Rattle.act_laws.specs.CoreDeeds.{actor_deeds, actor_link_deeds, begun_deeds, drive_deeds, driven_takes, link_deeds, record_deeds}
+use Rattle.act_laws.proofs.CalmDeeds.{reported_none}
+use Rattle.act_laws.specs.Deeds.{Deeds, advance_deeds, no_deeds, reach_takes}
 
 -- two choices by one test
 both : {A B : Type 0} (P : A → B → Type 0) (test : Bool) (one other : A) (first second : B) → P one first → P other second
@@ -36,49 +27,6 @@ both P true one other first second is none = is
 both P false one other first second is none = none
 
 module _ (end : End) where
-  -- ---- a crash
-
-  abbrev TellsNone : Deeds → Type 0
-  TellsNone deeds = deeds.takes end ≡ []
-
-  either_none : (test : Bool) (one other : Deeds) → TellsNone one → TellsNone other → TellsNone (if test then one else other)
-  either_none true one other first second = first
-  either_none false one other first second = second
-
-  then_none : (one other : Deeds) → TellsNone one → TellsNone other → TellsNone (deeds_then one other)
-  then_none one other first second = λ i. first i ++ second i
-
-  remote_none : (bench : BenchState) (caller : ℕ) → TellsNone (remote_deeds bench caller)
-  remote_none bench caller =
-      either_none (is_remote (end_of (link_in bench).callers caller)) _ no_deeds
-      (either_none (caller == 1) (deeds_then (one_move (Reclaim caller)) (one_move (Enlist side.Remote))) (one_move (Reclaim caller)) refl refl) refl
-
-  one_none : (bench : BenchState) (found : Option ℕ) → TellsNone (one_remote bench found)
-  one_none bench None = refl
-  one_none bench (Some caller) = remote_none bench caller
-
-  others_none : (first : Option ℕ) (bench : BenchState) (from count : ℕ) → TellsNone (others_deeds first bench from count)
-  unfolding others_deeds
-  others_none first bench from zero = refl
-  others_none first bench from (suc count) =
-      then_none (other_deeds first bench from) (others_deeds first (without_other first bench from) (from + 1) count)
-      (either_none (is_first first from) no_deeds (remote_deeds bench from) refl (remote_none bench from))
-      (others_none first (without_other first bench from) (from + 1) count)
-
-  crash_none : (bench : BenchState) → TellsNone (crash_deeds bench)
-  crash_none bench =
-      let first = holder (link_in (after_close bench)).to_remote.receiver in
-      let others = others_deeds first (without_one (after_close bench) first) 0 CALLERS_MOST in
-      then_none (one_move (Close (link_in bench).era.inc)) (deeds_then (one_remote (after_close bench) first) others) refl
-      (then_none (one_remote (after_close bench) first) others (one_none (after_close bench) first) (others_none first (without_one (after_close bench) first) 0 CALLERS_MOST))
-
-  reported_none : (answer : Result Crash LifeFault) (found : Option BenchState) → TellsNone (reported_deeds answer found)
-  reported_none (Ok (crash.First closed)) (Some bench) = crash_none bench
-  reported_none (Ok (crash.First closed)) None = refl
-  reported_none (Ok crash.Already) found = refl
-  reported_none (Ok crash.Limit) found = refl
-  reported_none (Err why) found = refl
-
   -- ---- a step on the link
 
   -- what this step tells is by the call that it ended
@@ -118,8 +66,8 @@ module _ (end : End) where
   work_told core work.Nothing = refl
   work_told core (work.Ask wanted) = refl
   work_told core work.Halted = refl
-  work_told core (work.Crash kind) = reported_none (report_of true core).answer core.bench
-  work_told core (work.Fault why) = reported_none (report_of true core).answer core.bench
+  work_told core (work.Crash kind) = reported_none end (report_of true core).answer core.bench
+  work_told core (work.Fault why) = reported_none end (report_of true core).answer core.bench
 
   record_told : (core : CoreState) (found : Option LoadState) → IsToldBy (step_with_report (record_run core found)) (record_deeds (record_run core found).driven (record_run core found).core)
   record_told core None = refl

@@ -8,3 +8,9 @@ pub mod CoreRungs
 pub mod RunCoreRungs
 pub mod Worded
 pub mod DrivenTakes
+pub mod BookedTakes
+pub mod DrivenWords
+pub mod TakeLines
+pub mod RunLines
+pub mod LinkLines
+pub mod DriveLines

@@ -29,6 +29,7 @@ use Rattle.run_laws.proofs.CoreWalks.{FitsNamed}
 use Rattle.act_laws.specs.Accounts.{Account, new_account, with_deeds}
 use Rattle.act_laws.specs.Deeds.{Deeds, act_deeds, no_deeds, one_move}
 use Rattle.way_laws.specs.RunAccounts.{account_after, close_deeds, reopened_account}
+use Rattle.act_laws.proofs.CalmDeeds.{Open, Silent, act_open}
 use Rattle.act_laws.proofs.Lands.{both_if, lands_none}
 use Rattle.act_laws.proofs.ReachedActs.{deeds_land}
 use Rattle.act_laws.proofs.Tales.{IsSoundTale, new_tale, sound_kept}
@@ -57,8 +58,8 @@ module _ (end : End) (bench : BenchState) (account : Account) (tale : IsSoundTal
   unfolding close_effect
   closed_tale name steps =
       both_if (steps == STEPS_MOST) Kept _ (tells (after_close bench) (steps + 1) (close_event name (link_in bench).era (link_close_refusal (link_in bench).era (link_in bench).era.inc))) no_deeds (one_move (Close (link_in bench).era.inc))
-      (sound_kept end bench account tale no_deeds bench (lands_none bench.rings))
-      (sound_kept end bench account tale (one_move (Close (link_in bench).era.inc)) (after_close bench)
+      (sound_kept end bench account tale no_deeds (Silent refl) bench (lands_none bench.rings))
+      (sound_kept end bench account tale (one_move (Close (link_in bench).era.inc)) (Silent refl) (after_close bench)
       (record { whole = (tt, tt); may = (tt, tt); leads = refl; takes = λ other. refl }))
 
   reopened_at : (name : List ℕ) (steps : ℕ) (why : Option ReopenFault) → IsSoundTale end (opened_effect name bench steps why).bench (reopened_account bench why account)
@@ -78,7 +79,7 @@ pub link_tale : (end : End) (on : NamedLink) (steps : ℕ) (wanted : NamedAct (L
 unfolding link_effect
 link_tale end on steps (under.Make made) account fits reached tale = tale
 link_tale end on steps (under.Link asked) account fits reached tale =
-    sound_kept end on.bench account tale (act_deeds nobody_sees 0 on.bench tt steps asked) (link_act nobody_sees 0 on.bench tt steps asked).bench
+    sound_kept end on.bench account tale (act_deeds nobody_sees 0 on.bench tt steps asked) (Open (act_open nobody_sees 0 on.bench tt steps asked)) (link_act nobody_sees 0 on.bench tt steps asked).bench
     (deeds_land nobody_sees 0 on.bench tt steps asked fits reached)
 link_tale end on steps (under.Manage manager.Close) account fits reached tale = closed_tale end on.bench account tale on.name steps
 link_tale end on steps (under.Manage manager.Reopen) account fits reached tale = reopened_tale end on.bench account tale on.name steps

@@ -21,7 +21,7 @@ use Rattle.link_commands.specs.Acts.{line_of}
 use Rattle.link_commands.specs.LinkCommands.{link_effect}
 use Rattle.command_run.specs.NamedCores.{NamedCoreState}
 use Rattle.link_commands.specs.NamedLinks.{NamedLink}
-use Rattle.command_run.specs.Runs.{RunEffect, RunState, core_located_effect, core_made_effect, core_place, dump_answer, dump_effect, dumped_effect, effect_of, found_core_effect, found_effect, has_image, image_effect, is_full, line_effect, located_effect, made_effect, making_effect, name_effect, new_end, place_of, quiet_effect, run_tells, unnamed_effect, with_image, without_link_effect}
+use Rattle.command_run.specs.Runs.{RunEffect, RunState, effect_by_core_place, core_made_effect, core_place, dump_answer, dump_effect, dump_effect_of, effect_of, effect_of_core, effect_of_link, has_image, image_effect, is_full, line_effect, effect_by_link_place, made_effect, making_effect, name_effect, new_end, place_of, quiet_effect, run_tells, unnamed_effect, with_image, without_link_effect}
 use Rattle.command_run.specs.Stores.{Answer}
 use Rattle.way_laws.specs.RunAccounts.{done_at, is_place}
 
@@ -71,11 +71,11 @@ module _ (run : RunState) (done : Line (List RecipeLine) (List ℕ)) (P : List N
     unnamed (under.Show shown) is = holds.same is_untouched
     unnamed (under.Core asked) is = holds.same is_untouched
 
-    core_at : (answer : Answer) (wanted : NamedAct (List ℕ)) (at : ℕ) (core : Option NamedCoreState) → done ≡ line.On name wanted → After (found_core_effect answer run name wanted at core)
+    core_at : (answer : Answer) (wanted : NamedAct (List ℕ)) (at : ℕ) (core : Option NamedCoreState) → done ≡ line.On name wanted → After (effect_of_core answer run name wanted at core)
     core_at answer wanted at None is = unnamed wanted is
     core_at answer wanted at (Some core) is = holds.same is_untouched
 
-    core_located : (answer : Answer) (wanted : NamedAct (List ℕ)) (at : Option ℕ) → done ≡ line.On name wanted → After (core_located_effect answer run name wanted at)
+    core_located : (answer : Answer) (wanted : NamedAct (List ℕ)) (at : Option ℕ) → done ≡ line.On name wanted → After (effect_by_core_place answer run name wanted at)
     core_located answer wanted None is = unnamed wanted is
     core_located answer wanted (Some at) is = core_at answer wanted at (slice_get run.objects.cores at) is
 
@@ -99,11 +99,11 @@ module _ (run : RunState) (done : Line (List RecipeLine) (List ℕ)) (P : List N
           ∙ ap (λ (b : Bool). cond b (Some wanted) None) differ.0
     ]
 
-    link_at : (at : ℕ) (link : Option NamedLink) → place_of run.objects.links name ≡ Some at → slice_get run.objects.links at ≡ link → After (found_effect answer run name wanted at link)
+    link_at : (at : ℕ) (link : Option NamedLink) → place_of run.objects.links name ≡ Some at → slice_get run.objects.links at ≡ link → After (effect_of_link answer run name wanted at link)
     link_at at None placed none = without_link name (gone at placed none) answer wanted is
     link_at at (Some on) placed found = holds.put name wanted at on is placed found
 
-    located : (at : Option ℕ) → place_of run.objects.links name ≡ at → After (located_effect answer run name wanted at)
+    located : (at : Option ℕ) → place_of run.objects.links name ≡ at → After (effect_by_link_place answer run name wanted at)
     located None placed = without_link name (none_there placed) answer wanted is
     located (Some at) placed = link_at at (slice_get run.objects.links at) placed refl
 
@@ -123,7 +123,7 @@ module _ (run : RunState) (done : Line (List RecipeLine) (List ℕ)) (P : List N
   unfolding quiet_effect
   quieted set none = holds.same none
 
-  dumped : (image : List ℕ) (answered : Result (List ℕ) Event) → IsUntouched run done → After (dumped_effect run image answered)
+  dumped : (image : List ℕ) (answered : Result (List ℕ) Event) → IsUntouched run done → After (dump_effect_of run image answered)
   dumped image (Ok bytes) none = holds.same none
   dumped image (Err told) none = holds.same none
 

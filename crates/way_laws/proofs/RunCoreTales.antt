@@ -5,6 +5,7 @@ use Rattle.std.proofs.lemmas.Bool.{cond_both, true≢false}
 use Rattle.std.proofs.lemmas.Bool.Decides.{eqb_tells}
 use Rattle.std.proofs.lemmas.List.Elements.{All-nil}
 use Rattle.rp_base.specs.declared.kinds.End.{End}
+use Rattle.rp_base.specs.declared.kinds.End.TheVariants as side
 use Rattle.rp_base.specs.declared.kinds.Switch.{Switch}
 use Rattle.lane_model.specs.declared.calls.LinkConfig.{LinkConfig}
 use Rattle.script_lang.specs.declared.commands.Command.{Command}
@@ -29,7 +30,7 @@ use Rattle.link_commands.specs.Acts.{line_of}
 use Rattle.command_run.specs.CoreCommands.{core_effect}
 use Rattle.command_run.specs.NamedCores.{NamedCoreState}
 use Rattle.link_commands.specs.NamedLinks.{NamedLink}
-use Rattle.command_run.specs.Runs.{RunEffect, RunState, core_located_effect, core_made_effect, core_place, dump_answer, dump_effect, dumped_effect, effect_of, found_core_effect, found_effect, has_image, image_effect, is_full, line_effect, located_effect, made_effect, making_effect, name_effect, new_run, place_of, quiet_effect, regions_of, run_of, run_tells, unnamed_effect, with_image, without_link_effect}
+use Rattle.command_run.specs.Runs.{RunEffect, RunState, effect_by_core_place, core_made_effect, core_place, dump_answer, dump_effect, dump_effect_of, effect_of, effect_of_core, effect_of_link, has_image, image_effect, is_full, line_effect, effect_by_link_place, made_effect, making_effect, name_effect, new_run, place_of, quiet_effect, regions_of, run_of, run_tells, unnamed_effect, with_image, without_link_effect}
 use Rattle.command_run.specs.Stores.{Answer, Told}
 use Rattle.run_laws.specs.Reached.{AreReached}
 use Rattle.run_laws.proofs.CoreWalks.{FitsNamed}
@@ -37,6 +38,7 @@ use Rattle.run_laws.proofs.RunWalks.{FitsLine, item_at}
 use Rattle.run_laws.proofs.RunsReached.{effect_reached, line_fits}
 use Rattle.run_laws.proofs.StartsInRuns.{set_there}
 use Rattle.act_laws.specs.Accounts.{Account, IsAccount}
+use Rattle.way_laws.specs.WordedTakes.{ComesFromOpening}
 use Rattle.way_laws.specs.CoreAccounts.{core_account_behind, core_account_of, core_accounting, done_on_core, is_unlinked, next_core_account}
 use Rattle.way_laws.specs.RunAccounts.{is_place}
 use Rattle.way_laws.proofs.CoreTales.{TaleIf, core_tale}
@@ -112,11 +114,11 @@ module _ (answer : Answer) (run : RunState) (done : Line (List RecipeLine) (List
         | inr differ ↦ placed_as (Some at) placed place ∙ ap (λ (b : Bool). cond b (Some wanted) None) differ.0
       ]
 
-      core_at : (at : ℕ) (core : Option NamedCoreState) → core_place run.objects.cores name ≡ Some at → slice_get run.objects.cores at ≡ core → After (found_core_effect answer run name wanted at core)
+      core_at : (at : ℕ) (core : Option NamedCoreState) → core_place run.objects.cores name ≡ Some at → slice_get run.objects.cores at ≡ core → After (effect_of_core answer run name wanted at core)
       core_at at None placed missing = unnamed name (gone at placed missing) wanted is
       core_at at (Some on) placed found = holds.put wanted at on (placed_as (Some at) placed) found
 
-      core_located : (at : Option ℕ) → core_place run.objects.cores name ≡ at → After (core_located_effect answer run name wanted at)
+      core_located : (at : Option ℕ) → core_place run.objects.cores name ≡ at → After (effect_by_core_place answer run name wanted at)
       core_located None placed = unnamed name (λ place on found. placed_as None placed place) wanted is
       core_located (Some at) placed = core_at at (slice_get run.objects.cores at) placed refl
 
@@ -127,11 +129,11 @@ module _ (answer : Answer) (run : RunState) (done : Line (List RecipeLine) (List
     unlinked_as : (at : Option ℕ) → place_of run.objects.links name ≡ at → is_unlinked run name ≡ is_none (option_and_then (slice_get run.objects.links) at)
     unlinked_as at placed = ap (λ (p : Option ℕ). is_none (option_and_then (slice_get run.objects.links) p)) placed
 
-    link_at : (at : ℕ) (link : Option NamedLink) → place_of run.objects.links name ≡ Some at → slice_get run.objects.links at ≡ link → After (found_effect answer run name wanted at link)
+    link_at : (at : ℕ) (link : Option NamedLink) → place_of run.objects.links name ≡ Some at → slice_get run.objects.links at ≡ link → After (effect_of_link answer run name wanted at link)
     link_at at None placed missing = without_link (unlinked_as (Some at) placed ∙ ap is_none missing)
     link_at at (Some on) placed found = holds.same (linked (unlinked_as (Some at) placed ∙ ap is_none found))
 
-    located : (at : Option ℕ) → place_of run.objects.links name ≡ at → After (located_effect answer run name wanted at)
+    located : (at : Option ℕ) → place_of run.objects.links name ≡ at → After (effect_by_link_place answer run name wanted at)
     located None placed = without_link (unlinked_as None placed)
     located (Some at) placed = link_at at (slice_get run.objects.links at) placed refl
 
@@ -151,7 +153,7 @@ module _ (answer : Answer) (run : RunState) (done : Line (List RecipeLine) (List
   unfolding quiet_effect
   quieted set none = holds.same none
 
-  dumped : (image : List ℕ) (answered : Result (List ℕ) Event) → IsUntouched run done → After (dumped_effect run image answered)
+  dumped : (image : List ℕ) (answered : Result (List ℕ) Event) → IsUntouched run done → After (dump_effect_of run image answered)
   dumped image (Ok bytes) none = holds.same none
   dumped image (Err told) none = holds.same none
 
@@ -279,3 +281,13 @@ module _ (end : End) (told : Told) (commands : List Command) (place : ℕ) (on :
 
   pub cores_told : IfSome on.core.bench (λ (bench : BenchState). IsSomeAnd (core_account_of end place told commands) (IsAccount end (link_in bench)))
   cores_told = told_if end on.core.bench (core_account_of end place told commands) tale
+
+come_if : (end : End) (found : Option BenchState) (account : Option Account) → TaleIf end found account → IfSome found (λ (bench : BenchState). ComesFromOpening (link_in bench))
+come_if end None account is = tt
+come_if end (Some bench) None is = absurd is
+come_if end (Some bench) (Some account) is = record { way = account.way; is_way = is.way; leads = is.leads }
+
+-- the link of a core comes by the way of its account
+pub cores_come : (told : Told) (commands : List Command) (place : ℕ) (on : NamedCoreState) → AreRunnable commands → slice_get (run_of told commands).last.objects.cores place ≡ Some on
+    → IfSome on.core.bench (λ (bench : BenchState). ComesFromOpening (link_in bench))
+cores_come told commands place on runs found = come_if side.Host on.core.bench (core_account_of side.Host place told commands) (tale side.Host told commands place on runs found)

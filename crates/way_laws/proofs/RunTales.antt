@@ -33,6 +33,7 @@ use Rattle.run_laws.proofs.RunWalks.{FitsLine, item_at}
 use Rattle.run_laws.proofs.RunsReached.{effect_reached, line_fits}
 use Rattle.run_laws.proofs.StartsInRuns.{set_there}
 use Rattle.act_laws.specs.Accounts.{Account, IsAccount, new_account}
+use Rattle.way_laws.specs.WordedTakes.{ComesFromOpening}
 use Rattle.way_laws.specs.RunAccounts.{account_behind, account_of, accounting, done_at, is_place, next_account}
 use Rattle.way_laws.proofs.LinksAfter.{HoldsAfter, IsUntouched, holds_after, link_behind, made_link}
 use Rattle.way_laws.proofs.LinkTales.{link_tale, made_tale}
@@ -77,7 +78,7 @@ makes_fit (command.NsLink name to_host to_remote book) runs = runs
 makes_fit (command.Core name regions book) runs = runs
 makes_fit other runs = tt
 
-done_fits : (run : RunState) (place : ℕ) (done : Line (List RecipeLine) (List ℕ)) → FitsLine IsFitAct done → IfSome (done_at run place done) (FitsNamed IsFitAct)
+pub done_fits : (run : RunState) (place : ℕ) (done : Line (List RecipeLine) (List ℕ)) → FitsLine IsFitAct done → IfSome (done_at run place done) (FitsNamed IsFitAct)
 done_fits run place (line.Image name lines) fits = tt
 done_fits run place (line.Quiet set) fits = tt
 done_fits run place (line.Dump name image) fits = tt
@@ -209,3 +210,8 @@ level_at end (Some link) (Some account) on P found is rest = rest account (subst
 module _ (told : Told) (commands : List Command) (place : ℕ) (on : NamedLink) (runs : AreRunnable commands) (found : slice_get (run_of told commands).last.objects.links place ≡ Some on) where
   pub links_sound : HasSoundRings on.bench.rings
   links_sound = level_at side.Host _ (account_of side.Host place told commands) on (λ (bench : BenchState). HasSoundRings bench.rings) found (run_tales side.Host place told commands runs) (λ account tale. tale.sound)
+
+  -- the link comes by the way of its account
+  pub links_come : ComesFromOpening (link_in on.bench)
+  links_come = level_at side.Host _ (account_of side.Host place told commands) on (λ (bench : BenchState). ComesFromOpening (link_in bench)) found (run_tales side.Host place told commands runs)
+      (λ account tale. record { way = account.way; is_way = tale.tale.way; leads = tale.tale.leads })

@@ -1,8 +1,9 @@
 -- The accounts of the links of a run's cores: what each command adds to them (own).
-use Rattle.std.specs.Prelude.{ℕ, zero, suc, ◌+◌, ◌==◌, ◌&&◌, Bool, List, slice_get, Option, Some, None, is_none, option_and_then, option_map, Result, Ok, Err, if◌then◌else◌}
+use Rattle.std.specs.Prelude.{ℕ, zero, suc, ◌+◌, ◌==◌, ◌&&◌, Bool, List, [], ◌++◌, slice_get, Option, Some, None, is_none, option_and_then, option_map, Result, Ok, Err, if◌then◌else◌}
 use Rattle.rp_base.specs.declared.kinds.End.{End}
 use Rattle.rp_base.specs.declared.limits.TheConstants.{STEPS_MOST}
 use Rattle.proc_state.specs.Lives.{is_up}
+use Rattle.lane_laws.specs.Handings.{Handing}
 use Rattle.script_lang.specs.declared.commands.Command.{Command}
 use Rattle.script_lang.specs.declared.recipes.RecipeLine.{RecipeLine}
 use Rattle.link_bench.specs.declared.acts.LinkAct.{LinkAct}
@@ -79,6 +80,14 @@ drive_account end (suc more) name on steps account =
     unless_some (rest_event name on) account
     (if steps == STEPS_MOST then account
     else drive_account end more name (drive_step on).core (steps + 1) (deed_account end on.bench (drive_deeds on) account))
+
+-- what so many steps of the actors tell of takes at each end, one after the other
+unfoldable pub drive_takes : ℕ → List ℕ → CoreState → ℕ → End → List Handing
+drive_takes zero name on steps = λ end. []
+drive_takes (suc more) name on steps =
+    unless_some (rest_event name on) (λ end. [])
+    (if steps == STEPS_MOST then (λ end. [])
+    else (λ end. (drive_deeds on).takes end ++ drive_takes more name (drive_step on).core (steps + 1) end))
 
 -- behind an act on a core
 abbrev pub life_account : End → List ImageState → Answer → NamedCoreState → ℕ → CoreAct → Option Account → Option Account

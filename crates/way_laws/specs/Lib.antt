@@ -1,3 +1,4 @@
 pub mod Notes
 pub mod RunAccounts
 pub mod CoreAccounts
+pub mod WordedTakes

@@ -1,9 +1,10 @@
 -- The accounts of the links of a run: what each command adds to them (own).
-use Rattle.std.specs.Prelude.{ℕ, ◌==◌, Bool, false, List, slice_get, Option, Some, None, option_map, if◌then◌else◌}
+use Rattle.std.specs.Prelude.{ℕ, ◌==◌, Bool, false, List, [], slice_get, Option, Some, None, option_map, if◌then◌else◌}
 use Rattle.rp_base.specs.declared.kinds.End.{End}
 use Rattle.rp_base.specs.declared.limits.TheConstants.{STEPS_MOST}
 use Rattle.lane_model.specs.declared.recoveries.ReopenFault.{ReopenFault}
 use Rattle.lane_model.specs.Recoveries.{link_reopen_refusal}
+use Rattle.lane_laws.specs.Handings.{Handing}
 use Rattle.lane_laws.specs.Moves.{Close}
 use Rattle.script_lang.specs.declared.commands.Command.{Command}
 use Rattle.script_lang.specs.declared.recipes.RecipeLine.{RecipeLine}
@@ -40,6 +41,11 @@ account_after end bench steps (under.Manage manager.Close) account = with_deeds 
 account_after end bench steps (under.Manage manager.Reopen) account = reopened_account bench (link_reopen_refusal (link_in bench)) account
 account_after end bench steps (under.Show shown) account = account
 account_after end bench steps (under.Core asked) account = account
+
+-- what is told of takes at each end by what is done under the name of a link: an act alone tells of any
+abbrev pub named_takes : BenchState → ℕ → NamedAct (List ℕ) → End → List Handing
+named_takes bench steps (under.Link asked) = (act_deeds nobody_sees 0 bench tt steps asked).takes
+named_takes bench steps other = λ end. []
 
 -- a name has this place
 abbrev pub is_place : Option ℕ → ℕ → Bool

@@ -3,4 +3,4 @@
 
 mod runs;
 
-pub use runs::{cores_told, links_own, links_told, takes_are_worded};
+pub use runs::{cores_told, lines_have_takes, links_own, links_told, takes_are_worded};

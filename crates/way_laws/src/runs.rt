@@ -1,6 +1,6 @@
 //! Laws of what runs do on their links and tell of takes. Each is the contract of an empty function, and speaks of definitions alone.
 
-ghost use Rattle.std.specs.Prelude.{◌≡◌, ℕ, List, Some, IfSome, IsSomeAnd, slice_get, [], ◌∷◌};
+ghost use Rattle.std.specs.Prelude.{◌≡◌, ◌++◌, ℕ, Bool, List, Option, Some, option_map, IfSome, IsSomeAnd, slice_get, [], ◌∷◌};
 ghost use Rattle.rp_base.specs.declared.kinds.End.{End};
 ghost use Rattle.rp_base.specs.declared.kinds.Verdict.{Verdict};
 ghost use Rattle.lane_model.specs.declared.calls.CallEnd.TheVariants as call_end;
@@ -9,13 +9,15 @@ ghost use Rattle.lane_laws.specs.Handings.{Handing};
 ghost use Rattle.channel_bus.specs.Sides.{EndState};
 ghost use Rattle.lane_laws.specs.SoundRingLinks.{HasSoundRings};
 ghost use Rattle.script_lang.specs.declared.commands.Command.{Command};
-ghost use Rattle.script_lang.specs.Runnable.{AreRunnable};
+ghost use Rattle.script_lang.specs.Runnable.{AreRunnable, IsRunnable};
 ghost use Rattle.link_bench.specs.declared.acts.ActAnswer.TheVariants as answer;
 ghost use Rattle.link_bench.specs.declared.acts.LinkAct.{LinkAct};
 ghost use Rattle.link_bench.specs.declared.benches.Reach.{Reach};
 ghost use Rattle.link_bench.specs.declared.benches.Reach.TheVariants as reach;
-ghost use Rattle.link_bench.specs.Acts.{link_act};
+ghost use Rattle.link_bench.specs.Acts.{IsFitAct, link_act};
 ghost use Rattle.link_bench.specs.Watchers.{nobody_sees};
+ghost use Rattle.core_actors.specs.declared.progress.Driven.TheVariants as driven;
+ghost use Rattle.core_laws.specs.BenchMoves.{IsReachedBench, IsReachedCore};
 ghost use Rattle.link_commands.specs.CallEvents.{end_event, took_event};
 ghost use Rattle.crash_recover.specs.Cores.{CoreState};
 ghost use Rattle.crash_recover.specs.CoreActs.{act_on_core};
@@ -25,11 +27,17 @@ ghost use Rattle.act_laws.specs.Deeds.{act_deeds, reach_takes};
 ghost use Rattle.link_bench.specs.Benches.{BenchState, link_in};
 ghost use Rattle.command_run.specs.NamedCores.{NamedCoreState};
 ghost use Rattle.link_commands.specs.NamedLinks.{NamedLink};
-ghost use Rattle.command_run.specs.Runs.{run_of};
-ghost use Rattle.command_run.specs.Stores.{Told};
-ghost use Rattle.act_laws.specs.Accounts.{IsAccount};
-ghost use Rattle.way_laws.specs.CoreAccounts.{core_account_of, core_act_deeds};
-ghost use Rattle.way_laws.specs.RunAccounts.{account_of};
+ghost use Rattle.command_run.specs.CoreDrives.{step_events};
+ghost use Rattle.command_run.specs.Runs.{effect_of, run_of};
+ghost use Rattle.command_run.specs.Stores.{Answer, Told};
+ghost use Rattle.link_commands.specs.declared.acts.CoreAct.TheVariants as core;
+ghost use Rattle.link_commands.specs.declared.acts.NamedAct.{NamedAct};
+ghost use Rattle.link_commands.specs.declared.acts.NamedAct.TheVariants as under;
+ghost use Rattle.link_commands.specs.Acts.{line_of};
+ghost use Rattle.act_laws.specs.Accounts.{Account, IsAccount};
+ghost use Rattle.way_laws.specs.CoreAccounts.{core_account_of, core_act_deeds, done_on_core, drive_account, drive_takes};
+ghost use Rattle.way_laws.specs.RunAccounts.{account_of, done_at, named_takes};
+ghost use Rattle.way_laws.specs.WordedTakes.{AreLinesAmong, AreLinesOfTakes, ComesFromOpening, IsWordedTake};
 
 /// After each list of commands, and so after each front of a script, a link of the run comes by the run's own moves since it was made or last
 /// reopened; and what the run told of takes on it since then, at an end of it, is what those moves handed over there, in order and each once,
@@ -58,7 +66,8 @@ pub fn links_own()
 
 /// Where an act answers how far a call came, as each call and step of a script does that nothing refuses, on a link of the script or of a core, what
 /// it tells of takes is by how that call ended. A step of a core's actors tells of the call that it ended, and of no other. And the line of a take has
-/// the number, the bytes and the verdict of the handing that is told.
+/// the number, the bytes and the verdict of the handing that is told. On a link that comes by a way from an opening, as each link of a run does, no
+/// such line is without a handing: where the call took a message, one handing is told at its caller's end, and the line is that of it.
 pub fn takes_are_worded()
     ensures reached { (own : ℕ) (bench : BenchState) (steps : ℕ) (asked : LinkAct (List ℕ)) (caller : ℕ) (came : Reach)
         → (link_act nobody_sees own bench tt steps asked).answer ≡ answer.Reached caller came
@@ -70,4 +79,46 @@ pub fn takes_are_worded()
     ensures line { (name : List ℕ) (link : LinkState EndState) (caller number : ℕ) (judged : Verdict) (handing : Handing) (end : End) → end_of link.callers caller ≡ Some end
         → reach_takes link caller (reach.Ended (call_end.Took number judged)) end ≡ handing ∷ []
         → end_event name link caller (call_end.Took number judged) ≡ took_event name caller handing.sent.number handing.sent.message handing.verdict }
+    ensures one { (own : ℕ) (bench : BenchState) (steps : ℕ) (asked : LinkAct (List ℕ)) (caller number : ℕ) (judged : Verdict)
+        → IsFitAct asked → IsReachedBench bench → ComesFromOpening (link_in bench)
+        → (link_act nobody_sees own bench tt steps asked).answer ≡ answer.Reached caller (reach.Ended (call_end.Took number judged))
+        → IsWordedTake (act_deeds nobody_sees own bench tt steps asked).takes (link_in (link_act nobody_sees own bench tt steps asked).bench) caller number judged }
+    ensures one_of_core { (core : CoreState) (bench : BenchState) (steps : ℕ) (asked : LinkAct (List ℕ)) (caller number : ℕ) (judged : Verdict)
+        → IsFitAct asked → IsReachedBench bench → ComesFromOpening (link_in bench)
+        → (act_on_core core bench steps asked).answer ≡ answer.Reached caller (reach.Ended (call_end.Took number judged))
+        → IsWordedTake (core_act_deeds core (Some bench) steps asked).takes (link_in (act_on_core core bench steps asked).bench) caller number judged }
+    ensures one_driven { (core : CoreState) (caller number : ℕ) (judged : Verdict)
+        → IsReachedCore core → IfSome core.bench (λ (bench : BenchState). ComesFromOpening (link_in bench))
+        → (drive_step core).driven ≡ driven.Ended caller (call_end.Took number judged)
+        → IsSomeAnd (drive_step core).core.bench (λ (left : BenchState). IsWordedTake (drive_deeds core).takes (link_in left) caller number judged) }
+    ensures links_come { (told : Told) (commands : List Command) (place : ℕ) (on : NamedLink) → AreRunnable commands
+        → slice_get (run_of told commands).last.objects.links place ≡ Some on → ComesFromOpening (link_in on.bench) }
+    ensures cores_come { (told : Told) (commands : List Command) (place : ℕ) (on : NamedCoreState) → AreRunnable commands
+        → slice_get (run_of told commands).last.objects.cores place ≡ Some on → IfSome on.core.bench (λ (bench : BenchState). ComesFromOpening (link_in bench)) }
+{}
+
+/// So each line of a take is the line of a handing that is told. Whatever a command of a run does under the name of a link of the script, it tells no
+/// such line without the one handing that its act tells at an end, and so does an act on the link of a core. Of a drive each such line is that of a
+/// handing that a step of the core's actors tells, and these are what the drive adds to the account of the core's link.
+pub fn lines_have_takes()
+    ensures link { (told : Told) (commands : List Command) (answer : Answer) (asked : Command) (place : ℕ) (wanted : NamedAct (List ℕ)) (on : NamedLink)
+        → AreRunnable commands → IsRunnable asked
+        → let run = (run_of told commands).last in
+        slice_get run.objects.links place ≡ Some on → done_at run place (line_of asked) ≡ Some wanted
+        → AreLinesOfTakes (named_takes on.bench run.steps wanted) on.name (effect_of answer run asked).events }
+    ensures of_core { (told : Told) (commands : List Command) (answer : Answer) (asked : Command) (place : ℕ) (act : LinkAct (List ℕ)) (on : NamedCoreState)
+        → AreRunnable commands → IsRunnable asked
+        → let run = (run_of told commands).last in
+        slice_get run.objects.cores place ≡ Some on → done_on_core run place (line_of asked) ≡ Some (under.Link act)
+        → AreLinesOfTakes (core_act_deeds on.core on.core.bench run.steps act).takes on.name (effect_of answer run asked).events }
+    ensures drive { (told : Told) (commands : List Command) (answer : Answer) (asked : Command) (place count : ℕ) (on : NamedCoreState)
+        → AreRunnable commands → IsRunnable asked
+        → let run = (run_of told commands).last in
+        slice_get run.objects.cores place ≡ Some on → done_on_core run place (line_of asked) ≡ Some (under.Core (core.Drive count))
+        → AreLinesAmong (drive_takes count on.name on.core run.steps) on.name (effect_of answer run asked).events }
+    ensures driven { (name : List ℕ) (is_quiet : Bool) (core : CoreState) → IsReachedCore core → IfSome core.bench (λ (bench : BenchState). ComesFromOpening (link_in bench))
+        → AreLinesOfTakes (drive_deeds core).takes name (step_events name is_quiet (drive_step core)) }
+    ensures drive_adds { (end : End) (count : ℕ) (name : List ℕ) (core : CoreState) (steps : ℕ) (account : Option Account) → IsReachedCore core
+        → option_map (λ (now : Account). now.told) (drive_account end count name core steps account)
+        ≡ option_map (λ (now : Account). now.told ++ drive_takes count name core steps end) account }
 {}

@@ -1,0 +1,173 @@
+-- A step of a core's actors that ended a call as a take tells of one handing, whose line is that of the call.
+use Rattle.std.proofs.Common.{◌≡◌, ℕ, List, [], Option, Some, None, IfSome, is_some, refl, sym, ap, subst, ◌∙◌}
+use Rattle.std.specs.Option.{IsSomeAnd}
+use Rattle.std.proofs.lemmas.Bool.{cond_both}
+use Rattle.rp_base.specs.declared.kinds.End.{End}
+use Rattle.rp_base.specs.declared.kinds.Verdict.{Verdict}
+use Rattle.lane_model.specs.declared.calls.CallEnd.TheVariants as ended
+use Rattle.lane_model.specs.declared.calls.Wish.{Wish}
+use Rattle.lane_model.specs.Links.{LinkState}
+use Rattle.lane_laws.specs.Handings.{Handing}
+use Rattle.lane_laws.specs.Moves.{MayMoves}
+use Rattle.lane_laws.specs.Ways.{link_after_moves, way_on}
+use Rattle.channel_bus.specs.Sides.{EndState, side_meaning}
+use Rattle.remote_core.specs.declared.workers.Work.{Work}
+use Rattle.remote_core.specs.declared.workers.Work.TheVariants as work
+use Rattle.remote_core.specs.Works.{work_of}
+use Rattle.link_bench.specs.declared.benches.Reach.{Reach}
+use Rattle.link_bench.specs.declared.benches.Reach.TheVariants as reach
+use Rattle.link_bench.specs.Benches.{BenchState, BenchWalk, IsSendable, advance_walk, begin_fault, begun_call_of, is_in_call, link_in, start_walk}
+use Rattle.link_bench.proofs.Begun.{begin_may}
+use Rattle.core_actors.specs.declared.actors.Actor.{Actor}
+use Rattle.core_actors.specs.declared.actors.Actor.TheVariants as actor
+use Rattle.core_actors.specs.declared.progress.Driven.{Driven}
+use Rattle.core_actors.specs.declared.progress.Driven.TheVariants as driven
+use Rattle.core_actors.specs.ActorSteps.{begun_step, drive_of_reach, drive_of_work, first_or_take, has_calls, link_step}
+use Rattle.crash_recover.specs.Cores.{CoreState, LoadState}
+use Rattle.crash_recover.specs.Drives.{DriveStep, actor_step, actor_to_step, after_record, drive_step, host_step, is_idle, placed_map, record_run, record_step, step_with_report, with_turn_after, worker_call}
+use Rattle.core_laws.specs.BenchMoves.{IsReachedBench, IsReachedCore}
+use Rattle.core_laws.proofs.CoreMoves.{first_sendable}
+use Rattle.act_laws.specs.CoreDeeds.{drive_deeds, driven_takes}
+use Rattle.act_laws.specs.Deeds.{Deeds}
+use Rattle.act_laws.proofs.ActLands.{LandsAt}
+use Rattle.act_laws.proofs.CoreLands.{LandsIf, drive_lands, no_fault}
+use Rattle.act_laws.proofs.Lands.{lands_lists, link_both, may_both, whole_both}
+use Rattle.act_laws.proofs.ReachedActs.{may_act}
+use Rattle.way_laws.specs.WordedTakes.{ComesFromOpening, IsWordedTake}
+use Rattle.way_laws.proofs.BookedTakes.{ReachTakesOne, TakesOne, advance_once, begin_once}
+use Rattle.way_laws.proofs.DrivenTakes.{drive_told}
+use Rattle.way_laws.proofs.Worded.{once_worded}
+
+-- a step that ended a call left a link, and where the call took a message it is told of one handing
+abbrev pub DrivenTakesOne : Driven → Option BenchState → Type 0
+DrivenTakesOne (driven.Ended caller came) (Some bench) = TakesOne (link_in bench) caller came
+DrivenTakesOne (driven.Ended caller came) None = ⊥
+DrivenTakesOne other found = Unit {0}
+
+abbrev StepOnce : DriveStep → Type 0
+StepOnce step = DrivenTakesOne step.driven step.core.bench
+
+-- ---- a step on the link
+
+abbrev WalkOnce : ℕ → BenchWalk → Type 0
+WalkOnce caller walk = DrivenTakesOne (drive_of_reach caller walk.reach) (Some walk.bench)
+
+reach_once : (bench : BenchState) (caller : ℕ) (came : Reach) → ReachTakesOne (link_in bench) caller came → DrivenTakesOne (drive_of_reach caller came) (Some bench)
+reach_once bench caller (reach.At step) is = tt
+reach_once bench caller (reach.Ended came) is = is
+reach_once bench caller reach.Limit is = tt
+
+-- a link of a core that is reached and comes by a way from an opening
+record IsKnown (bench : BenchState) : Type 0 where
+  pub reached : IsReachedBench bench
+  pub comes : ComesFromOpening (link_in bench)
+
+link_once : (bench : BenchState) (caller : ℕ) (wanted : Wish) → IsKnown bench → IsSendable wanted → WalkOnce caller (link_step bench caller wanted)
+link_once bench caller wanted known sendable =
+    let advanced = advance_walk bench 0 0 caller in
+    let started = start_walk bench 0 caller wanted in
+    cond_both (is_in_call bench caller) advanced (begun_step bench caller wanted) (WalkOnce caller)
+    (λ in_call. reach_once advanced.bench caller advanced.reach (advance_once bench known.comes 0 0 caller (begun_call_of bench caller) ((may_act bench known.reached).go caller in_call)))
+    (λ _. cond_both (is_some (begin_fault bench caller wanted)) (record { bench = bench; steps = 0; reach = reach.Limit }) started (WalkOnce caller) (λ _. tt)
+    (λ ready. reach_once started.bench caller started.reach
+    (begin_once bench known.comes 0 0 caller wanted (begin_may bench caller wanted sendable (no_fault (begin_fault bench caller wanted) ready)))))
+
+-- ---- a step of an actor
+
+host_once : (core : CoreState) (found : Option BenchState) → IfSome found IsKnown → IsSendable (first_or_take core.actors.host_calls) → StepOnce (host_step core found)
+host_once core None known sendable = tt
+host_once core (Some bench) known sendable = link_once bench 0 (first_or_take core.actors.host_calls) known sendable
+
+call_once : (core : CoreState) (found : Option BenchState) → IfSome found IsKnown → IsSendable (first_or_take core.actors.worker_calls) → StepOnce (worker_call core found)
+call_once core None known sendable = tt
+call_once core (Some bench) known sendable = link_once bench 1 (first_or_take core.actors.worker_calls) known sendable
+
+work_once : (core : CoreState) (done : Work) → StepOnce (step_with_report (record { core = core; driven = drive_of_work done }))
+work_once core work.Nothing = tt
+work_once core (work.Ask wanted) = tt
+work_once core work.Halted = tt
+work_once core (work.Crash kind) = tt
+work_once core (work.Fault why) = tt
+
+record_once : (core : CoreState) (found : Option LoadState) → StepOnce (step_with_report (record_run core found))
+record_once core None = tt
+record_once core (Some load) =
+    let map = placed_map core.regions load in work_once (after_record core load map) (work_of load.memory map (is_some core.bench) core.actors.worker)
+
+actor_once : (who : Actor) (core : CoreState) → IsReachedCore core → IfSome core.bench IsKnown → StepOnce (actor_step who core)
+actor_once actor.Host core is known = host_once core core.bench known (first_sendable core.actors.host_calls is.calls.host)
+actor_once actor.Worker core is known =
+    cond_both (has_calls core.bench core.actors) (worker_call core core.bench) (record_step core) StepOnce
+    (λ _. call_once core core.bench known (first_sendable core.actors.worker_calls is.calls.worker)) (λ _. record_once core core.loaded)
+
+known_if : (found : Option BenchState) → IfSome found IsReachedBench → IfSome found (λ (bench : BenchState). ComesFromOpening (link_in bench)) → IfSome found IsKnown
+known_if None reached comes = tt
+known_if (Some bench) reached comes = record { reached = reached; comes = comes }
+
+pub drive_once : (core : CoreState) → IsReachedCore core → IfSome core.bench (λ (bench : BenchState). ComesFromOpening (link_in bench)) → StepOnce (drive_step core)
+drive_once core is comes =
+    cond_both (is_idle core) (record { core = core; driven = driven.Idle }) (actor_step (actor_to_step core) (with_turn_after (actor_to_step core) core)) StepOnce (λ _. tt)
+    (λ _. actor_once (actor_to_step core) (with_turn_after (actor_to_step core) core) (record { bench = is.bench; calls = record { host = is.calls.host; worker = is.calls.worker } })
+    (known_if core.bench is.bench comes))
+
+-- ---- what it tells
+
+worded_at : (takes : End → List Handing) (caller number : ℕ) (judged : Verdict) (left : Option BenchState) → DrivenTakesOne (driven.Ended caller (ended.Took number judged)) left
+    → ((end : End) → takes end ≡ driven_takes (driven.Ended caller (ended.Took number judged)) left end) → IsSomeAnd left (λ (bench : BenchState). IsWordedTake takes (link_in bench) caller number judged)
+worded_at takes caller number judged None one tells = absurd one
+worded_at takes caller number judged (Some bench) one tells = once_worded takes (link_in bench) caller number judged one tells
+
+pub drive_worded : (core : CoreState) → IsReachedCore core → IfSome core.bench (λ (bench : BenchState). ComesFromOpening (link_in bench)) → (caller number : ℕ) (judged : Verdict)
+    → (drive_step core).driven ≡ driven.Ended caller (ended.Took number judged)
+    → IsSomeAnd (drive_step core).core.bench (λ (left : BenchState). IsWordedTake (drive_deeds core).takes (link_in left) caller number judged)
+drive_worded core reached comes caller number judged is =
+    let left = (drive_step core).core.bench in
+    worded_at (drive_deeds core).takes caller number judged left (subst (λ (came : Driven). DrivenTakesOne came left) is (drive_once core reached comes))
+    (λ end. subst (λ (came : Driven). (drive_deeds core).takes end ≡ driven_takes came left end) is (drive_told end core))
+
+-- ---- the link that it leaves
+
+comes_on : (bench left : BenchState) (deeds : Deeds) → LandsAt bench deeds left → ComesFromOpening (link_in bench) → ComesFromOpening (link_in left)
+comes_on bench left deeds lands comes = record {
+  way = way_on comes.way deeds.moves;
+  is_way = record {
+    opened = comes.is_way.opened;
+    whole = whole_both comes.way.moves deeds.moves comes.is_way.whole lands.whole;
+    may = may_both comes.way.start comes.way.moves deeds.moves comes.is_way.may
+        (subst (λ (link : LinkState EndState). MayMoves side_meaning link deeds.moves) (sym comes.leads) lands.may);
+  };
+  leads =
+      link_both comes.way.start comes.way.moves deeds.moves ∙ ap (λ (link : LinkState EndState). link_after_moves side_meaning link deeds.moves) comes.leads
+      ∙ lands_lists bench.rings deeds left.rings lands;
+}
+
+comes_if : (found : Option BenchState) (deeds : Deeds) (left : Option BenchState) → LandsIf found deeds left → IfSome found (λ (bench : BenchState). ComesFromOpening (link_in bench))
+    → IfSome left (λ (bench : BenchState). ComesFromOpening (link_in bench))
+comes_if None deeds None lands comes = tt
+comes_if None deeds (Some left) lands comes = absurd lands
+comes_if (Some bench) deeds None lands comes = absurd lands
+comes_if (Some bench) deeds (Some left) lands comes = comes_on bench left deeds lands comes
+
+-- a step of the actors leaves a link that comes by a way from an opening
+pub drive_comes : (core : CoreState) → IsReachedCore core → IfSome core.bench (λ (bench : BenchState). ComesFromOpening (link_in bench))
+    → IfSome (drive_step core).core.bench (λ (bench : BenchState). ComesFromOpening (link_in bench))
+drive_comes core reached comes = comes_if core.bench (drive_deeds core) (drive_step core).core.bench (drive_lands core reached) comes
+
+-- where a core has no link, it tells of no take
+none_left : (found : Option BenchState) (deeds : Deeds) (left : Option BenchState) → LandsIf found deeds left → found ≡ None → left ≡ None
+none_left None deeds None lands none = refl
+none_left None deeds (Some left) lands none = absurd lands
+none_left (Some bench) deeds left lands none = absurd (cc)
+
+none_told : (came : Driven) (end : End) → driven_takes came None end ≡ []
+none_told driven.Idle end = refl
+none_told driven.Stepped end = refl
+none_told (driven.Ended caller came) end = refl
+none_told (driven.Worker why closed) end = refl
+none_told (driven.Crashed why closed) end = refl
+
+pub none_driven : (core : CoreState) (end : End) → IsReachedCore core → core.bench ≡ None → (drive_deeds core).takes end ≡ []
+none_driven core end reached none =
+    drive_told end core
+    ∙ ap (λ (left : Option BenchState). driven_takes (drive_step core).driven left end) (none_left core.bench (drive_deeds core) (drive_step core).core.bench (drive_lands core reached) none)
+    ∙ none_told (drive_step core).driven end

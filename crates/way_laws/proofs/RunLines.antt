@@ -1,0 +1,136 @@
+-- The lines of takes of the commands of a run.
+use Rattle.std.proofs.Common.{◌≡◌, ℕ, ◌&&◌, Bool, true, false, cond, List, Option, Some, None, is_none, option_and_then, slice_get, refl, sym, ap, subst, ◌∙◌, inl, inr}
+use Rattle.std.specs.Prelude.{IfSome}
+use Rattle.std.proofs.lemmas.Bool.{true≢false}
+use Rattle.std.proofs.lemmas.Bool.Decides.{eqb_tells}
+use Rattle.script_lang.specs.declared.commands.Command.{Command}
+use Rattle.script_lang.specs.declared.recipes.RecipeLine.{RecipeLine}
+use Rattle.script_lang.specs.Runnable.{AreRunnable, IsRunnable}
+use Rattle.link_bench.specs.declared.acts.LinkAct.{LinkAct}
+use Rattle.link_bench.specs.Acts.{IsFitAct}
+use Rattle.core_laws.specs.BenchMoves.{IsReachedBench, IsReachedCore}
+use Rattle.link_commands.specs.declared.acts.CoreAct.TheVariants as core
+use Rattle.link_commands.specs.declared.acts.Line.{Line}
+use Rattle.link_commands.specs.declared.acts.Line.TheVariants as line
+use Rattle.link_commands.specs.declared.acts.NamedAct.{NamedAct}
+use Rattle.link_commands.specs.declared.acts.NamedAct.TheVariants as under
+use Rattle.link_commands.specs.Acts.{line_of}
+use Rattle.link_commands.specs.LinkCommands.{link_effect}
+use Rattle.link_commands.specs.NamedLinks.{NamedLink}
+use Rattle.command_run.specs.CoreCommands.{core_act_effect, core_effect}
+use Rattle.command_run.specs.NamedCores.{NamedCoreState}
+use Rattle.command_run.specs.Runs.{RunEffect, RunState, effect_by_core_place, core_place, effect_of, effect_of_core, effect_of_link, line_effect, effect_by_link_place, name_effect, place_of, run_of, without_link_effect}
+use Rattle.command_run.specs.Stores.{Answer, Told}
+use Rattle.run_laws.proofs.CoreWalks.{FitsNamed}
+use Rattle.run_laws.proofs.RunWalks.{item_at}
+use Rattle.run_laws.proofs.RunsReached.{line_fits, runs_reached}
+use Rattle.way_laws.specs.CoreAccounts.{core_act_deeds, done_on_core, drive_takes, is_unlinked}
+use Rattle.way_laws.specs.RunAccounts.{done_at, is_place, named_takes}
+use Rattle.way_laws.specs.WordedTakes.{AreLinesAmong, AreLinesOfTakes}
+use Rattle.way_laws.proofs.DriveLines.{drive_among}
+use Rattle.way_laws.proofs.LinkLines.{named_lines}
+use Rattle.way_laws.proofs.RunCoreTales.{cores_come, done_fits as core_done_fits}
+use Rattle.way_laws.proofs.RunTales.{done_fits, links_come, same_item}
+use Rattle.way_laws.proofs.TakeLines.{core_act_lines}
+
+-- a choice that is there was made
+chosen : {X : Type 0} (test : Bool) (one wanted : X) → cond test (Some one) None ≡ Some wanted → (test ≡ true) × (one ≡ wanted)
+chosen true one wanted is = (refl, same_item one wanted is)
+chosen false one wanted is = absurd (cc)
+
+same_place : (at : Option ℕ) (place : ℕ) → is_place at place ≡ true → at ≡ Some place
+same_place None place is = absurd (true≢false (sym is))
+same_place (Some at) place is = elim (eqb_tells at place) [
+  | inl same ↦ ap Some same.1
+  | inr differ ↦ absurd (true≢false (sym is ∙ differ.0))
+]
+
+-- ---- what a command tells that does something on a link
+
+module _ (answer : Answer) (run : RunState) (place : ℕ) (on : NamedLink) (found : slice_get run.objects.links place ≡ Some on) where
+  link_line : (now : Line (List RecipeLine) (List ℕ)) (wanted : NamedAct (List ℕ)) → done_at run place now ≡ Some wanted → (line_effect answer run now).events ≡ (link_effect on run.steps wanted).events
+  unfolding name_effect
+  link_line (line.Image name lines) wanted is = absurd (cc)
+  link_line (line.Quiet set) wanted is = absurd (cc)
+  link_line (line.Dump name image) wanted is = absurd (cc)
+  link_line (line.On name act) wanted is =
+      let made = chosen (is_place (place_of run.objects.links name) place) act wanted is in
+      ap (λ (at : Option ℕ). (effect_by_link_place answer run name act at).events) (same_place (place_of run.objects.links name) place made.0)
+      ∙ ap (λ (link : Option NamedLink). (effect_of_link answer run name act place link).events) found
+      ∙ ap (λ (w : NamedAct (List ℕ)). (link_effect on run.steps w).events) made.1
+
+  link_tells : (asked : Command) (wanted : NamedAct (List ℕ)) → done_at run place (line_of asked) ≡ Some wanted → (effect_of answer run asked).events ≡ (link_effect on run.steps wanted).events
+  unfolding effect_of
+  link_tells asked wanted is = link_line (line_of asked) wanted is
+
+-- ---- what a command tells that does something on a core
+
+module _ (answer : Answer) (run : RunState) (place : ℕ) (on : NamedCoreState) (found : slice_get run.objects.cores place ≡ Some on) where
+  none_found : (name : List ℕ) (act : NamedAct (List ℕ)) (at : ℕ) (link : Option NamedLink) → is_none link ≡ true → effect_of_link answer run name act at link ≡ without_link_effect answer run name act
+  none_found name act at None none = refl
+  none_found name act at (Some link) none = absurd (true≢false (sym none))
+
+  none_located : (name : List ℕ) (act : NamedAct (List ℕ)) (at : Option ℕ) → is_none (option_and_then (slice_get run.objects.links) at) ≡ true → effect_by_link_place answer run name act at ≡ without_link_effect answer run name act
+  none_located name act None none = refl
+  none_located name act (Some at) none = none_found name act at (slice_get run.objects.links at) none
+
+  core_named : (name : List ℕ) (act wanted : NamedAct (List ℕ)) (unlinked : Bool) → is_unlinked run name ≡ unlinked → cond (unlinked && is_place (core_place run.objects.cores name) place) (Some act) None ≡ Some wanted
+      → (name_effect answer run name act).events ≡ (core_effect run.objects.images answer run.objects.is_quiet on run.steps wanted).events
+  unfolding name_effect without_link_effect
+  core_named name act wanted false none is = absurd (cc)
+  core_named name act wanted true none is =
+      let made = chosen (is_place (core_place run.objects.cores name) place) act wanted is in
+      ap (λ (effect : RunEffect). effect.events) (none_located name act (place_of run.objects.links name) none)
+      ∙ ap (λ (at : Option ℕ). (effect_by_core_place answer run name act at).events) (same_place (core_place run.objects.cores name) place made.0)
+      ∙ ap (λ (named : Option NamedCoreState). (effect_of_core answer run name act place named).events) found
+      ∙ ap (λ (w : NamedAct (List ℕ)). (core_effect run.objects.images answer run.objects.is_quiet on run.steps w).events) made.1
+
+  core_line : (now : Line (List RecipeLine) (List ℕ)) (wanted : NamedAct (List ℕ)) → done_on_core run place now ≡ Some wanted
+      → (line_effect answer run now).events ≡ (core_effect run.objects.images answer run.objects.is_quiet on run.steps wanted).events
+  core_line (line.Image name lines) wanted is = absurd (cc)
+  core_line (line.Quiet set) wanted is = absurd (cc)
+  core_line (line.Dump name image) wanted is = absurd (cc)
+  core_line (line.On name act) wanted is = core_named name act wanted (is_unlinked run name) refl is
+
+  core_tells : (asked : Command) (wanted : NamedAct (List ℕ)) → done_on_core run place (line_of asked) ≡ Some wanted
+      → (effect_of answer run asked).events ≡ (core_effect run.objects.images answer run.objects.is_quiet on run.steps wanted).events
+  unfolding effect_of
+  core_tells asked wanted is = core_line (line_of asked) wanted is
+
+-- ---- the commands of a run
+
+module _ (told : Told) (commands : List Command) (runs : AreRunnable commands) (answer : Answer) (asked : Command) (may : IsRunnable asked) (place : ℕ) where
+  abbrev run : RunState
+  run = (run_of told commands).last
+
+  -- what is done under the name of a link
+  pub link_lines : (wanted : NamedAct (List ℕ)) (on : NamedLink) → slice_get run.objects.links place ≡ Some on → done_at run place (line_of asked) ≡ Some wanted
+      → AreLinesOfTakes (named_takes on.bench run.steps wanted) on.name (effect_of answer run asked).events
+  link_lines wanted on found done =
+      subst (AreLinesOfTakes (named_takes on.bench run.steps wanted) on.name) (sym (link_tells answer run place on found asked wanted done))
+      (named_lines on run.steps wanted
+      (subst (λ (acted : Option (NamedAct (List ℕ))). IfSome acted (FitsNamed IsFitAct)) done (done_fits run place (line_of asked) (line_fits asked may)))
+      (item_at (λ (named : NamedLink). IsReachedBench named.bench) run.objects.links place on found (runs_reached told commands runs).links)
+      (links_come told commands place on runs found))
+
+  reached : (on : NamedCoreState) → slice_get run.objects.cores place ≡ Some on → IsReachedCore on.core
+  reached on found = item_at (λ (named : NamedCoreState). IsReachedCore named.core) run.objects.cores place on found (runs_reached told commands runs).cores
+
+  -- an act on the link of a core
+  pub core_lines : (act : LinkAct (List ℕ)) (on : NamedCoreState) → slice_get run.objects.cores place ≡ Some on → done_on_core run place (line_of asked) ≡ Some (under.Link act)
+      → AreLinesOfTakes (core_act_deeds on.core on.core.bench run.steps act).takes on.name (effect_of answer run asked).events
+  unfolding core_effect
+  core_lines act on found done =
+      subst (AreLinesOfTakes (core_act_deeds on.core on.core.bench run.steps act).takes on.name) (sym (core_tells answer run place on found asked (under.Link act) done))
+      (core_act_lines on.name on.core run.steps act on.core.bench
+      (subst (λ (wanted : Option (NamedAct (List ℕ))). IfSome wanted (FitsNamed IsFitAct)) done (core_done_fits run place (line_of asked) (line_fits asked may)))
+      (reached on found).bench
+      (cores_come told commands place on runs found))
+
+  -- a drive of a core
+  pub drive_lines : (count : ℕ) (on : NamedCoreState) → slice_get run.objects.cores place ≡ Some on → done_on_core run place (line_of asked) ≡ Some (under.Core (core.Drive count))
+      → AreLinesAmong (drive_takes count on.name on.core run.steps) on.name (effect_of answer run asked).events
+  unfolding core_effect core_act_effect
+  drive_lines count on found done =
+      subst (AreLinesAmong (drive_takes count on.name on.core run.steps) on.name) (sym (core_tells answer run place on found asked (under.Core (core.Drive count)) done))
+      (drive_among on.name run.objects.is_quiet on.core run.steps count (reached on found) (cores_come told commands place on runs found))

@@ -1,0 +1,13 @@
+use Rattle.way_laws.proofs.DriveLines.{drive_adds}
+use Rattle.way_laws.proofs.RunLines.{core_lines, drive_lines, link_lines}
+use Rattle.way_laws.proofs.TakeLines.{drive_lines as step_lines}
+use Rattle.way_laws.proofs.runs.lines_have_takes.Goals as goal
+
+pub returns : goal.returns
+returns c = record {
+  link = λ told commands answer asked place wanted on runs may found done. link_lines told commands runs answer asked may place wanted on found done;
+  of_core = λ told commands answer asked place act on runs may found done. core_lines told commands runs answer asked may place act on found done;
+  drive = λ told commands answer asked place count on runs may found done. drive_lines told commands runs answer asked may place count on found done;
+  driven = λ name is_quiet core reached comes. step_lines name is_quiet core reached comes;
+  drive_adds = λ end count name core steps account reached. drive_adds end count name core steps account reached;
+}
