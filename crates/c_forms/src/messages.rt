@@ -3,6 +3,7 @@ ghost use Rattle.rp_base.specs.Texts.{text_before_zero};
 ghost use Rattle.rpmsg_header.specs.Headers.{is_whole};
 ghost use Rattle.rpmsg_header.specs.Services.{service_of};
 ghost use Rattle.c_forms.specs.Messages.{head_status, read_status, service_given, service_room, service_status, service_told, told_head, with_head, with_service};
+ghost use Rattle.rp_base.specs.declared.limits.TheConstants.{NAME_MOST};
 
 use crate::names::padded;
 use crate::{DONE, WRONG_LENGTH};
@@ -120,11 +121,11 @@ pub fn write_service(given: &CService, buffer: &mut [u8]) -> u32
     DONE
 }
 
-/// The name in a field of at most 31 bytes, up to the first zero.
+/// The name in a field of at most [`NAME_MOST`] bytes, up to the first zero.
 fn name_in(field: &[u8]) -> Name
-    requires { length field.now ≤ 31 }
+    requires { length field.now ≤ NAME_MOST }
     ensures text { result ≡ text_before_zero field.now }
-    ensures short { length result ≤ 31 }
+    ensures short { length result ≤ NAME_MOST }
 {
     let len = field.iter().take_while(|byte| **byte != 0).count();
     match Name::of(&field[..len]) {

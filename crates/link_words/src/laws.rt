@@ -12,6 +12,7 @@ ghost use Rattle.ring_core.specs.declared.states.RingState.{RingState};
 ghost use Rattle.ring_core.specs.Owners.{owner, once_below};
 ghost use Rattle.ring_core.specs.RingLinks.{opened_ring_link};
 ghost use Rattle.ring_core.specs.RingSteps.{ring_form};
+ghost use Rattle.lane_model.specs.declared.TheConstants.{MANAGER};
 ghost use Rattle.link_words.specs.declared.rule.LinkSizes.{LinkSizes};
 ghost use Rattle.link_words.specs.declared.rule.Slot.{Slot};
 ghost use Rattle.link_words.specs.declared.rule.View.{View};
@@ -47,7 +48,7 @@ pub fn opening_meets_rule<D: Desk>()
     ensures { (config : LinkConfig) (desks : DeskTables) (host remote : D) (to_host to_remote : List (List ℕ)) → IsConfig config → config.first < 2 ^ 32
         → length to_host ≡ ring_capacity config.num0 → length to_remote ≡ ring_capacity config.num1
         → code_in desks.host.value.views ≡ D.row.coded.code host → code_in desks.remote.value.views ≡ D.row.coded.code remote
-        → LinkRule D.row.coded D.meaning (sizes_for config desks) (opening (layout (words_of 0 [] (opened_ring_link config host remote))) (opened_slots config.book (right_at D.row.coded desks side.Host host) (right_at D.row.coded desks side.Remote remote) to_host to_remote) (first_view (sizes_for config desks) 64)) }
+        → LinkRule D.row.coded D.meaning (sizes_for config desks) (opening (layout (words_of 0 [] (opened_ring_link config host remote))) (opened_slots config.book (right_at D.row.coded desks side.Host host) (right_at D.row.coded desks side.Remote remote) to_host to_remote) (first_view (sizes_for config desks) MANAGER)) }
 {}
 
 /// The state that a table shows, between any two steps: it is sound, each buffer of a lane has exactly one place, and the two counts

@@ -18,7 +18,7 @@ use rp_base::{CallerNo, End};
 use std::marker::PhantomData;
 
 /// The word of the manager's turns.
-const MANAGER_WORD: u64 = 65;
+pub(crate) const MANAGER_WORD: u64 = 65;
 
 /// A load of the era in a reclaim. It is for the proofs alone.
 pub struct TellsFindsClosed<D> {

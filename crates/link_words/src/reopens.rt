@@ -13,6 +13,7 @@ use crate::manages::{
     TellsResetsWord, TellsTakesForManager,
 };
 use crate::places::{ERA_PLACE, receiver_place, sender_place};
+use crate::reclaims::MANAGER_WORD;
 use crate::rule::{LinkSeat, LinkTable};
 use lane_model::{Desk, LaneTurn};
 use rp_base::{End, Inc};
@@ -55,7 +56,7 @@ pub fn take_for_manager<D: Desk>(
     ensures order { IsOrderly manager.new.me.0 }
 {
     let word = turn_place(lane, turn);
-    table.compare_exchange::<TellsTakesForManager<D>>(manager, word, 0, 65)
+    table.compare_exchange::<TellsTakesForManager<D>>(manager, word, 0, MANAGER_WORD)
 }
 
 /// The manager leaves a turn: it is free, and the side state is at home.

@@ -82,6 +82,7 @@ pub struct ReceiverState {
 
 impl Model for ReceiverState {
     ghost use Rattle.std.specs.Prelude.{◌≡◌, ◌≤◌, ◌∷◌, [], length, vec_capacity};
+    ghost use Rattle.rp_base.specs.declared.limits.TheConstants.{CAPACITY_MOST};
     ghost use Rattle.link_words.specs.declared.rule.ReceiverSide.{ReceiverSide};
     ghost use Rattle.link_words.specs.DeskSeats.{code_in, home_view};
 
@@ -89,7 +90,7 @@ impl Model for ReceiverState {
 
     ghost view = { λ r. record { handed = length r.takers.items; takers = r.takers.items; room = r.room; returned = r.returned; hands = r.hands.items; desk = record { end = r.end; table = r.desk.table_id; code = code_in r.desk.views } } };
 
-    ghost invariant = { λ r. (256 ≤ vec_capacity r.hands) × (r.room ≤ vec_capacity r.takers) × (r.desk.views ≡ home_view (code_in r.desk.views) ∷ []) };
+    ghost invariant = { λ r. (CAPACITY_MOST ≤ vec_capacity r.hands) × (r.room ≤ vec_capacity r.takers) × (r.desk.views ≡ home_view (code_in r.desk.views) ∷ []) };
 }
 
 impl ReceiverState {

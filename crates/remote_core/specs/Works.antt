@@ -8,6 +8,7 @@ use Rattle.lane_model.specs.Conditions.{IsFitWish}
 use Rattle.lane_model.specs.declared.states.Holding.{Holding}
 use Rattle.lane_model.specs.declared.calls.Wish.{Wish}
 use Rattle.lane_model.specs.declared.calls.Wish.TheVariants as wish
+use Rattle.rp_base.specs.declared.limits.TheConstants.{NAME_MOST}
 use Rattle.remote_code.specs.declared.faults.WorkerFault.{WorkerFault}
 use Rattle.remote_code.specs.declared.records.Record.{Record}
 use Rattle.remote_code.specs.declared.records.Record.TheVariants.{Halt, Announce, Bind, Send, Raw, Take, Trace, Crash, Loop}
@@ -28,7 +29,7 @@ service_address = 53
 abbrev pub last_source : ℕ
 last_source = 0xffff_ffff
 
--- the payload of an announcement (rpmsg_ns_msg of Linux rpmsg/ns.h): 31 bytes of the name and a 0, then address and flags
+-- the payload of an announcement (rpmsg_ns_msg of Linux rpmsg/ns.h): the bytes of the name and a 0, then address and flags
 abbrev pub announcement : List ℕ → ℕ → ℕ → List ℕ
 announcement name address flags =
     (name ++ 0 ∷ []) ++ little_bytes 4 address ++ little_bytes 4 flags
@@ -45,7 +46,7 @@ crash_kind a = if a == 0 then kind.Mmufault else if a == 1 then kind.Watchdog el
 abbrev pub work_of_record : List ℕ → Mapping → ℕ → Record → Work
 work_of_record memory map source Halt = work.Halted
 work_of_record memory map source (Announce a b c) =
-    work.Ask (wish.Send (header_bytes a service_address (announcement (bytes_from memory 31 (named_place map c 32)) a b)))
+    work.Ask (wish.Send (header_bytes a service_address (announcement (bytes_from memory NAME_MOST (named_place map c 32)) a b)))
 work_of_record memory map source (Bind a) = work.Ask (wish.Bind a)
 work_of_record memory map source (Send n a b c) =
     work.Ask (wish.Send (header_bytes a (destination source b) (named_bytes memory map c n)))

@@ -1,5 +1,5 @@
 ghost use Rattle.std.specs.Prelude.{◌≡◌, ◌+◌, ◌≤◌, ◌++◌, length, false, is_ok, IfOk};
-ghost use Rattle.rp_base.specs.declared.limits.TheConstants.{MESSAGE_MOST};
+ghost use Rattle.rp_base.specs.declared.limits.TheConstants.{MESSAGE_MOST, NAME_MOST};
 ghost use Rattle.lane_model.specs.declared.calls.Wish.TheVariants as call;
 ghost use Rattle.remote_core.specs.Records.{has_large_operand, names_memory, with_memory};
 ghost use Rattle.remote_core.specs.Works.{announcement, crash_kind, destination, done_with, memory_after_next, work_of_next, work_with, IsFitWork};
@@ -9,7 +9,7 @@ use crate::workers::Task;
 use addr_translate::{CoreMemory, Map};
 use lane_model::Wish;
 use remote_code::{Record, WorkerFault};
-use rp_base::{CrashKind, MESSAGE_MOST, Message, put_u32};
+use rp_base::{CrashKind, MESSAGE_MOST, Message, NAME_MOST, put_u32};
 use rpmsg_header::head;
 
 /// The address of the name service.
@@ -41,7 +41,7 @@ pub(crate) fn perform(
         Record::Halt => return Ok(Task::Halted),
         Record::Announce(a, b, c) => {
             let at = named_place(map, c, 32)?;
-            let payload = announcement(memory.bytes(at, 31), a, b);
+            let payload = announcement(memory.bytes(at, NAME_MOST as u32), a, b);
             send(wish, &head(a, SERVICE_ADDRESS, 40), &payload);
         }
         Record::Bind(a) => *wish = Wish::Bind(a),
@@ -78,10 +78,10 @@ fn send(wish: &mut Wish, head: &[u8], body: &[u8])
     }
 }
 
-/// The payload of an announcement: the first 31 bytes of the name as they stand and a 0, then the
+/// The payload of an announcement: the first [`NAME_MOST`] bytes of the name as they stand and a 0, then the
 /// address and the flags.
 fn announcement(name: &[u8], address: u32, flags: u32) -> [u8; 40]
-    requires { length name.now ≡ 31 }
+    requires { length name.now ≡ NAME_MOST }
     ensures { result ≡ announcement name.now address flags }
 {
     let mut payload = [0; ANNOUNCEMENT_SIZE];

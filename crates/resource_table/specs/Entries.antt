@@ -3,6 +3,7 @@ use Rattle.std.specs.Prelude.{ℕ, ◌+◌, ◌*◌, ◌==◌, nat_lt, List, map
 use Rattle.std.specs.List.{range_with_len}
 use Rattle.rp_base.specs.Fields.{number_at}
 use Rattle.rp_base.specs.Texts.{text_before_zero}
+use Rattle.rp_base.specs.declared.limits.TheConstants.{NAME_MOST}
 use Rattle.resource_table.specs.Layout.{field, resource_table, fw_rsc_hdr, fw_rsc_carveout, fw_rsc_trace, fw_rsc_vdev, fw_rsc_vdev_vring}
 use Rattle.resource_table.specs.declared.kinds.ResourceType.{ResourceType}
 use Rattle.resource_table.specs.declared.kinds.ResourceType.TheVariants as type
@@ -39,7 +40,7 @@ type_at bytes start = type_of (field fw_rsc_hdr.type start bytes)
 
 -- the name in a field that begins at a place: the bytes up to the first zero, and the last byte counts as zero (char name[32])
 abbrev pub name_at : ℕ → List ℕ → List ℕ
-name_at place bytes = text_before_zero (take 31 (drop place bytes))
+name_at place bytes = text_before_zero (take NAME_MOST (drop place bytes))
 
 -- where the vring of a number begins, in the device that begins at a place (struct fw_rsc_vdev, vring[])
 abbrev pub vring_start : ℕ → ℕ → ℕ

@@ -3,6 +3,7 @@ use Rattle.std.specs.Prelude.{◌≡◌, ℕ, ◌<◌, ◌≤◌, ◌+◌, ◌*�
 use Rattle.std.specs.Int.{is_power_of_two}
 use Rattle.std.specs.List.{range_with_len, list_any}
 use Rattle.rp_base.specs.Limits.{is_ring_size}
+use Rattle.resource_table.specs.declared.TheConstants.{ENTRIES_MOST}
 use Rattle.resource_table.specs.Layout.{field, resource_table, fw_rsc_hdr, fw_rsc_carveout, fw_rsc_trace, fw_rsc_vdev, fw_rsc_vdev_vring}
 use Rattle.rp_base.specs.Faults.{fault_if, first_fault}
 use Rattle.resource_table.specs.Entries.{entry_count, start_of, type_at, ring_count, vring_start, vring_at}
@@ -28,10 +29,10 @@ offsets_end bytes = resource_table.size + resource_table.offset_size * entry_cou
 abbrev pub is_past_end : List ℕ → ℕ → Bool
 is_past_end bytes index = nat_lt (length bytes) (start_of bytes index)
 
--- whether there are more than 256 entries (own), the offsets pass the end, or one of them does (struct resource_table, num and offset[])
+-- whether there are more entries than there may be (own), the offsets pass the end, or one of them does (struct resource_table, num and offset[])
 abbrev pub has_wrong_offsets : List ℕ → Bool
 has_wrong_offsets bytes =
-    nat_lt 256 (entry_count bytes)
+    nat_lt ENTRIES_MOST (entry_count bytes)
     || nat_lt (length bytes) (offsets_end bytes)
     || list_any (is_past_end bytes) (range_with_len 0 (entry_count bytes))
 

@@ -1,6 +1,7 @@
 -- What is kept while the entries of a table are tested, one after the other. No public clause speaks of this: it serves the contracts of the crate's own functions.
 use Rattle.std.specs.Prelude.{◌≡◌, ℕ, ◌+◌, ◌≤◌, ◌<◌, List, All, length}
 use Rattle.std.specs.List.{range_with_len, list_any}
+use Rattle.resource_table.specs.declared.TheConstants.{ENTRIES_MOST}
 use Rattle.resource_table.specs.Entries.{entry_count, start_of, type_at}
 use Rattle.resource_table.specs.Tables.{fixed_size, is_rpmsg, earlier_spans, offsets_end}
 use Rattle.resource_table.specs.declared.testing.Earlier.{Earlier}
@@ -8,7 +9,7 @@ use Rattle.resource_table.specs.declared.testing.Earlier.{Earlier}
 -- a table whose header has passed its tests (struct resource_table)
 pub record IsSoundHeader (bytes : List ℕ) : Type 0 where
   pub size : 16 ≤ length bytes
-  pub count : entry_count bytes ≤ 256
+  pub count : entry_count bytes ≤ ENTRIES_MOST
   pub offsets : offsets_end bytes ≤ length bytes
 
 -- the fixed parts of the first entries lie in the table (own)

@@ -3,6 +3,7 @@ ghost use Rattle.rp_base.specs.Fields.{number_at};
 ghost use Rattle.rp_base.specs.Texts.{text_before_zero};
 ghost use Rattle.resource_table.specs.Entries.{name_at, vring_start, vring_at, ring_count, ring_of, device_at, entry_at, type_at};
 ghost use Rattle.resource_table.specs.Tables.{entry_size, fixed_size};
+ghost use Rattle.rp_base.specs.declared.limits.TheConstants.{NAME_MOST};
 
 use crate::kinds::ResourceType;
 use rp_base::{Da, NAME_MOST, Name, Pa, u32_at};
@@ -156,7 +157,7 @@ pub(crate) fn read_ring(bytes: &[u8], start: usize) -> Ring
 
 /// The name in a field without its last byte, which counts as zero.
 fn name_in(field: &[u8]) -> Name
-    requires { length field.now ≤ 31 }
+    requires { length field.now ≤ NAME_MOST }
     ensures { result ≡ text_before_zero field.now }
 {
     let len = field.iter().take_while(|byte| **byte != 0).count();

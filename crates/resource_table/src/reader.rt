@@ -33,6 +33,7 @@ impl<'a> Table<'a> {
     ghost use Rattle.resource_table.specs.Tables.{GoodTable, IsSoundEntry, table_fault};
     ghost use Rattle.resource_table.specs.Patches.{is_fix_of, patched_of, patch_writes, LeavesPlace};
     ghost use Rattle.resource_table.specs.PatchedEntries.{patched_entries};
+    ghost use Rattle.resource_table.specs.declared.TheConstants.{ENTRIES_MOST};
 
     #[tactic(auto, using(crate::proofs::Sound::sound_header))]
     /// Reads a table. The error is the first of the tests that fails.
@@ -46,10 +47,10 @@ impl<'a> Table<'a> {
         Ok(Table { bytes })
     }
 
-    /// How many entries the table has, at most 256.
+    /// How many entries the table has, at most [`ENTRIES_MOST`](crate::ENTRIES_MOST).
     pub fn len(&self) -> u16
         ensures entries { result ≡ length (entries_of self.now) }
-        ensures most { result ≤ 256 }
+        ensures most { result ≤ ENTRIES_MOST }
         ensures good { GoodTable self.now }
     {
         entry_count(self.bytes) as u16

@@ -14,12 +14,13 @@ pub struct Name {
 impl Model for Name {
     ghost use Rattle.std.specs.Prelude.{ℕ, List, ◌≡◌, ◌≤◌, length};
     ghost use Rattle.rp_base.specs.Texts.{text_before_zero, padded_name};
+    ghost use Rattle.rp_base.specs.declared.limits.TheConstants.{NAME_MOST};
 
     ghost Value = { List ℕ };
 
     ghost view = { λ n. text_before_zero n.bytes };
 
-    ghost invariant = { λ n. (n.bytes ≡ padded_name (text_before_zero n.bytes)) × (length (text_before_zero n.bytes) ≤ 31) };
+    ghost invariant = { λ n. (n.bytes ≡ padded_name (text_before_zero n.bytes)) × (length (text_before_zero n.bytes) ≤ NAME_MOST) };
 
     ghost inverse = { λ text. record { bytes = padded_name text } };
 }

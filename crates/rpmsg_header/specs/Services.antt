@@ -2,6 +2,7 @@
 use Rattle.std.specs.Prelude.{◌≡◌, ℕ, ◌^◌, ◌<◌, ◌≤◌, List, ◌++◌, Option, Some, None, ◌==◌, if◌then◌else◌, length, take, bit_and}
 use Rattle.byteorder.specs.Endian.{little_bytes}
 use Rattle.rp_base.specs.Fields.{number_at}
+use Rattle.rp_base.specs.declared.limits.TheConstants.{NAME_MOST}
 use Rattle.rp_base.specs.Texts.{padded_name, text_before_zero}
 use Rattle.rpmsg_header.specs.declared.services.NsMessage.{NsMessage}
 
@@ -13,7 +14,7 @@ service_bytes ns =
 -- what 40 bytes say (rpmsg_ns_msg): the last byte of the name counts as zero, flags above the lowest bit are ignored (own)
 abbrev pub service_in : List ℕ → NsMessage
 service_in payload = record {
-  name = text_before_zero (take 31 payload);
+  name = text_before_zero (take NAME_MOST payload);
   address = number_at 4 32 payload;
   destroy = bit_and (number_at 4 36 payload) 1 == 1;
 }
@@ -22,8 +23,8 @@ service_in payload = record {
 abbrev pub service_of : List ℕ → Option NsMessage
 service_of payload = if length payload == 40 then Some (service_in payload) else None
 
--- what a service message can say: a name of at most 31 bytes without a zero, and an address of 32 bits (rpmsg_ns_msg)
+-- what a service message can say: a name of at most so many bytes as one may have, without a zero, and an address of 32 bits (rpmsg_ns_msg)
 pub record IsSayable (ns : NsMessage) : Type 0 where
-  pub short : length ns.name ≤ 31
+  pub short : length ns.name ≤ NAME_MOST
   pub text : text_before_zero ns.name ≡ ns.name
   pub address_fits : ns.address < 2 ^ 32

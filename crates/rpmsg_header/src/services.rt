@@ -1,6 +1,7 @@
 ghost use Rattle.std.specs.Prelude.{◌≡◌, ℕ, ◌≤◌, length};
 ghost use Rattle.rp_base.specs.Texts.{text_before_zero};
 ghost use Rattle.rpmsg_header.specs.Services.{service_bytes, service_of};
+ghost use Rattle.rp_base.specs.declared.limits.TheConstants.{NAME_MOST};
 
 use rp_base::{NAME_MOST, Name, put_u32, u32_at};
 
@@ -46,9 +47,9 @@ pub fn ns_read(payload: &[u8]) -> Option<NsMessage>
     })
 }
 
-// The name in a field of at most 31 bytes, up to the first zero.
+// The name in a field of at most as many bytes as a name may have, up to the first zero.
 fn name_in(field: &[u8]) -> Name
-    requires { length field.now ≤ 31 }
+    requires { length field.now ≤ NAME_MOST }
     ensures { result ≡ text_before_zero field.now }
 {
     let len = field.iter().take_while(|byte| **byte != 0).count();

@@ -2,7 +2,7 @@
 ghost use Rattle.std.specs.Prelude.{◌≡◌, ℕ, ◌+◌, ◌-◌, ◌*◌, ◌≤◌, ◌++◌, ◌∷◌, [], replicate, true, IfOk};
 ghost use Rattle.std.specs.List.{range_with_len};
 ghost use Rattle.rp_base.specs.Limits.{IsRingSize};
-ghost use Rattle.rp_base.specs.declared.limits.TheConstants.{BOOK_MOST};
+ghost use Rattle.rp_base.specs.declared.limits.TheConstants.{BOOK_MOST, CAPACITY_MOST};
 ghost use Rattle.ring_core.specs.Rings.{sizes_of};
 ghost use Rattle.link_words.specs.DeskSeats.{code_in, home_view};
 ghost use Rattle.link_words.specs.Fresh.{opened_slots};
@@ -60,7 +60,7 @@ fn push_blanks(words: &mut Vec<u64>, count: u32) -> Result<(), NoMemory>
 
 /// Appends the entries of the two rings of a new lane.
 fn push_entries(words: &mut Vec<u64>, sizes: &RingSizes) -> Result<(), NoMemory>
-    requires sizes { (sizes.now.own ≤ sizes.now.capacity) × (sizes.now.capacity ≤ sizes.now.entries) × (sizes.now.capacity ≤ 256) }
+    requires sizes { (sizes.now.own ≤ sizes.now.capacity) × (sizes.now.capacity ≤ sizes.now.entries) × (sizes.now.capacity ≤ CAPACITY_MOST) }
     ensures { IfOk result (λ _. words.new.items ≡ words.old.items ++ words_apart 0 (opened_entries sizes.now)) }
 {
     let stocked = sizes.capacity - sizes.own;

@@ -4,7 +4,7 @@ ghost use Rattle.lane_model.specs.declared.TheConstants.{MANAGER};
 ghost use Rattle.lane_model.specs.Conditions.{IsConfig};
 ghost use Rattle.lane_model.specs.Desks.{IsFreshDesk};
 ghost use Rattle.lane_model.specs.Links.{free_number};
-ghost use Rattle.rp_base.specs.declared.limits.TheConstants.{BOOK_MOST};
+ghost use Rattle.rp_base.specs.declared.limits.TheConstants.{BOOK_MOST, CAPACITY_MOST};
 ghost use Rattle.ring_core.specs.RingLinks.{opened_ring_link};
 ghost use Rattle.ring_core.specs.Rings.{return_count};
 ghost use Rattle.link_words.specs.Fresh.{sizes_for};
@@ -154,7 +154,7 @@ impl<D: Desk> SharedLink<D> {
     /// The sizes of the lane to an end.
     pub(crate) fn sizes_of(&self, lane: End) -> RingSizes
         ensures sizes { result ≡ sizes_at self.now.sizes lane }
-        ensures fit { (result.own ≤ result.capacity) × (result.capacity ≤ 256) }
+        ensures fit { (result.own ≤ result.capacity) × (result.capacity ≤ CAPACITY_MOST) }
     {
         match lane {
             End::Host => self.sizes.to_host,
@@ -167,7 +167,7 @@ impl<D: Desk> SharedLink<D> {
     pub(crate) fn return_count(&self, lane: End, returned: u64) -> u64
         requires { returned ≤ BOOK_MOST }
         ensures count { result ≡ return_count (sizes_at self.now.sizes lane) returned }
-        ensures most { result ≤ BOOK_MOST + 256 }
+        ensures most { result ≤ BOOK_MOST + CAPACITY_MOST }
     {
         let sizes = self.sizes_of(lane);
         u64::from(sizes.capacity - sizes.own) + returned

@@ -1,6 +1,6 @@
 //! A send: a function for each step, and the whole walk.
 ghost use Rattle.std.specs.Prelude.{◌≡◌, ◌≢◌, ◌+◌, ◌≤◌, ◌%◌, ◌<◌, ℕ, suc, ◌∷◌, [], IfOk, IfErr, None, length};
-ghost use Rattle.rp_base.specs.declared.limits.TheConstants.{BOOK_MOST};
+ghost use Rattle.rp_base.specs.declared.limits.TheConstants.{BOOK_MOST, CAPACITY_MOST};
 ghost use Rattle.lane_model.specs.declared.calls.CallEnd.{CallEnd};
 ghost use Rattle.lane_model.specs.declared.calls.CallEnd.TheVariants as call_end;
 ghost use Rattle.lane_model.specs.declared.calls.Wish.TheVariants as wish;
@@ -77,7 +77,7 @@ pub(crate) fn sender_slot(lane: End) -> usize
 /// How many buffers are not out, by the return index, which is near the count of accepted messages.
 fn free_buffers(index: u64, sizes: &RingSizes, accepted: u64) -> u64
     requires sizes { sizes.now.own ≤ sizes.now.capacity }
-    requires most { (sizes.now.capacity ≤ 256) × (accepted ≤ BOOK_MOST) × (index < 65536) }
+    requires most { (sizes.now.capacity ≤ CAPACITY_MOST) × (accepted ≤ BOOK_MOST) × (index < 65536) }
     ensures { (returned : ℕ) → index ≡ return_count sizes.now returned % 65536 → AreNear sizes.now.capacity accepted returned → result + accepted ≡ returned + sizes.now.capacity }
 {
     (index + u64::from(sizes.own) + 65_536 - accepted % 65_536) % 65_536

@@ -127,7 +127,7 @@ pub(crate) fn took(
 /// How many messages are accepted and not handed over, by the forward index.
 fn waiting_messages(index: u64, handed: u64) -> u64
     requires { (index < 65536) × (handed ≤ BOOK_MOST) }
-    ensures { (accepted : ℕ) → index ≡ accepted % 65536 → handed ≤ accepted → accepted ≤ handed + 256 → result + handed ≡ accepted }
+    ensures { (accepted : ℕ) → index ≡ accepted % 65536 → handed ≤ accepted → accepted ≤ handed + CAPACITY_MOST → result + handed ≡ accepted }
 {
     (index + 65_536 - handed % 65_536) % 65_536
 }

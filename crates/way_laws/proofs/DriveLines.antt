@@ -1,5 +1,5 @@
 -- Each line of a take that a drive of a core tells is the line of a handing that the drive tells, and the account of the link takes these up.
-use Rattle.std.proofs.Common.{◌≡◌, ℕ, zero, suc, ◌+◌, ◌==◌, Bool, true, false, List, [], ◌∷◌, ◌++◌, Option, Some, None, IfSome, Contains, option_map, unwrap_or, refl, sym, ap, subst, ◌∙◌}
+use Rattle.std.proofs.Common.{◌≡◌, ℕ, zero, suc, ◌+◌, ◌==◌, Bool, true, false, cond, List, [], ◌∷◌, ◌++◌, Option, Some, None, IfSome, Contains, option_map, unwrap_or, refl, sym, ap, subst, ◌∙◌}
 use Rattle.std.proofs.lemmas.Bool.{cond_both, true≢false}
 use Rattle.std.proofs.lemmas.List.{append_assoc, append-nil}
 use Rattle.std.proofs.lemmas.List.Elements.{All-append, All-cons, All-nil, All-weaker, Contains-append_left, Contains-append_right, Contains-push}
@@ -102,6 +102,15 @@ module _ (name : List ℕ) where
   drive_among is_quiet core steps count reached comes =
       cond_both (is_up core.life.state) (drive_steps count name is_quiet core steps) (core_tells core steps (event.NotRunning name)) (λ (effect : CoreEffect). AreLinesAmong (drive_takes count name core steps) name effect.events)
       (λ _. steps_among count is_quiet core steps reached comes) (λ _. one_among (drive_takes count name core steps) (event.NotRunning name) refl)
+
+  -- the same, where a drive of a core that is not up tells of no take
+  pub drive_up_among : (is_quiet : Bool) (core : CoreState) (steps count : ℕ) → IsReachedCore core → IfSome core.bench (λ (bench : BenchState). ComesFromOpening (link_in bench))
+      → AreLinesAmong (cond (is_up core.life.state) (drive_takes count name core steps) (λ end. [])) name (drive_effect name is_quiet core steps count).events
+  unfolding drive_effect
+  drive_up_among is_quiet core steps count reached comes =
+      both_if (is_up core.life.state) (λ (effect : CoreEffect) (takes : End → List Handing). AreLinesAmong takes name effect.events) (drive_steps count name is_quiet core steps) (core_tells core steps (event.NotRunning name))
+      (drive_takes count name core steps) (λ end. [])
+      (steps_among count is_quiet core steps reached comes) (one_among (λ end. []) (event.NotRunning name) refl)
 
 -- ---- the account
 

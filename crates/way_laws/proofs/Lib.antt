@@ -14,3 +14,6 @@ pub mod TakeLines
 pub mod RunLines
 pub mod LinkLines
 pub mod DriveLines
+pub mod CoreLines
+pub mod OtherLines
+pub mod EveryLine

@@ -33,48 +33,48 @@ use Rattle.way_laws.specs.RunAccounts.{named_takes}
 use Rattle.way_laws.specs.WordedTakes.{AreLinesOfTakes, ComesFromOpening, IsLineOfTake, is_take_line}
 use Rattle.way_laws.proofs.TakeLines.{act_lines}
 
--- none of these events is the line of a take
-abbrev TellNoTakes : List Event → Type 0
-TellNoTakes events = AllByRecursion (λ (line : Event). is_take_line line ≡ false) events
+-- none of these events is the line of a take: `TellNoTakes` by cases on the list
+abbrev pub HaveNoTakes : List Event → Type 0
+HaveNoTakes events = AllByRecursion (λ (line : Event). is_take_line line ≡ false) events
 
-both_none : (one other : List Event) → TellNoTakes one → TellNoTakes other → TellNoTakes (one ++ other)
+both_none : (one other : List Event) → HaveNoTakes one → HaveNoTakes other → HaveNoTakes (one ++ other)
 both_none [] other first second = second
 both_none (line ∷ lines) other first second = (first.0, both_none lines other first.1 second)
 
-each_none : {X : Type 0} (word : X → Event) → ((item : X) → is_take_line (word item) ≡ false) → (items : List X) → TellNoTakes (map word items)
+pub each_none : {X : Type 0} (word : X → Event) → ((item : X) → is_take_line (word item) ≡ false) → (items : List X) → HaveNoTakes (map word items)
 each_none word none [] = tt
 each_none word none (item ∷ items) = (none item, each_none word none items)
 
 -- ---- what a link shows
 
-rows_none : (count : ℕ) (name : List ℕ) (offset : ℕ) (bytes : List ℕ) → TellNoTakes (dump_rows count name offset bytes)
+rows_none : (count : ℕ) (name : List ℕ) (offset : ℕ) (bytes : List ℕ) → HaveNoTakes (dump_rows count name offset bytes)
 unfolding dump_rows
 rows_none zero name offset bytes = tt
 rows_none (suc more) name offset bytes =
     both_none (row_events name offset (take 16 bytes)) (dump_rows more name (offset + 16) (drop 16 bytes))
-    (cond_both (list_all (λ byte. byte == 0) (take 16 bytes)) [] (event.Dump name offset (take 16 bytes) ∷ []) TellNoTakes (λ _. tt) (λ _. (refl, tt)))
+    (cond_both (list_all (λ byte. byte == 0) (take 16 bytes)) [] (event.Dump name offset (take 16 bytes) ∷ []) HaveNoTakes (λ _. tt) (λ _. (refl, tt)))
     (rows_none more name (offset + 16) (drop 16 bytes))
 
-ring_none : (name : List ℕ) (lane : ℕ) (bytes : List ℕ) → TellNoTakes (ring_events name lane bytes)
+pub ring_none : (name : List ℕ) (lane : ℕ) (bytes : List ℕ) → HaveNoTakes (ring_events name lane bytes)
 ring_none name lane bytes = (refl, rows_none (row_count bytes) name 0 bytes)
 
-shown_none : (name : List ℕ) (bench : BenchState) (lane : ℕ) (found : Option ℕ) → TellNoTakes (ring_events_unless name bench lane found)
+shown_none : (name : List ℕ) (bench : BenchState) (lane : ℕ) (found : Option ℕ) → HaveNoTakes (ring_events_unless name bench lane found)
 shown_none name bench lane (Some caller) = (refl, tt)
 shown_none name bench lane None = ring_none name lane _
 
-rings_none : (name : List ℕ) (bench : BenchState) (lane : ℕ) → TellNoTakes (bench_ring_events name bench lane)
+rings_none : (name : List ℕ) (bench : BenchState) (lane : ℕ) → HaveNoTakes (bench_ring_events name bench lane)
 unfolding bench_ring_events
 rings_none name bench lane = shown_none name bench lane _
 
-listed_none : (name : List ℕ) (bench : BenchState) (found : Option ℕ) → TellNoTakes (channel_events_unless name bench found)
+listed_none : (name : List ℕ) (bench : BenchState) (found : Option ℕ) → HaveNoTakes (channel_events_unless name bench found)
 listed_none name bench (Some caller) = (refl, tt)
 listed_none name bench None = each_none (channel_event name) (λ channel. refl) (link_in bench).to_host.desk.channels
 
-channels_none : (name : List ℕ) (bench : BenchState) → TellNoTakes (channels_events name bench)
+channels_none : (name : List ℕ) (bench : BenchState) → HaveNoTakes (channels_events name bench)
 unfolding channels_events
 channels_none name bench = listed_none name bench (holder (link_in bench).to_host.receiver)
 
-view_none : (name : List ℕ) (bench : BenchState) (shown : LinkView) → TellNoTakes (view_events name bench shown)
+pub view_none : (name : List ℕ) (bench : BenchState) (shown : LinkView) → HaveNoTakes (view_events name bench shown)
 unfolding view_events
 view_none name bench view.Books = (refl, (refl, tt))
 view_none name bench (view.Ring lane) = rings_none name bench lane
@@ -86,33 +86,33 @@ closed_none : (name : List ℕ) (era : Era) (found : Option Era) → is_take_lin
 closed_none name era None = refl
 closed_none name era (Some found) = refl
 
-close_none : (name : List ℕ) (bench : BenchState) (steps : ℕ) → TellNoTakes (close_effect name bench steps).events
+pub close_none : (name : List ℕ) (bench : BenchState) (steps : ℕ) → HaveNoTakes (close_effect name bench steps).events
 unfolding close_effect
 close_none name bench steps =
-    cond_both (steps == STEPS_MOST) _ _ (λ (effect : Effect). TellNoTakes effect.events) (λ _. tt)
+    cond_both (steps == STEPS_MOST) _ _ (λ (effect : Effect). HaveNoTakes effect.events) (λ _. tt)
     (λ _. (closed_none name (link_in bench).era (link_close_refusal (link_in bench).era (link_in bench).era.inc), tt))
 
-reopen_none : (name : List ℕ) (why : ReopenFault) → TellNoTakes (reopen_events name why)
+pub reopen_none : (name : List ℕ) (why : ReopenFault) → HaveNoTakes (reopen_events name why)
 reopen_none name (reopen_fault.StillOpen era) = (refl, tt)
 reopen_none name (reopen_fault.StillTurn caller) = (refl, tt)
 reopen_none name (reopen_fault.StillHeld caller number) = (refl, tt)
 reopen_none name reopen_fault.IncarnationsSpent = (refl, tt)
 reopen_none name reopen_fault.NoMemory = tt
 
-opened_none : (name : List ℕ) (bench : BenchState) (steps : ℕ) (why : Option ReopenFault) → TellNoTakes (opened_effect name bench steps why).events
+opened_none : (name : List ℕ) (bench : BenchState) (steps : ℕ) (why : Option ReopenFault) → HaveNoTakes (opened_effect name bench steps why).events
 opened_none name bench steps None = (refl, tt)
 opened_none name bench steps (Some why) = reopen_none name why
 
-reopened_none : (name : List ℕ) (bench : BenchState) (steps : ℕ) → TellNoTakes (reopen_effect name bench steps).events
+pub reopened_none : (name : List ℕ) (bench : BenchState) (steps : ℕ) → HaveNoTakes (reopen_effect name bench steps).events
 unfolding reopen_effect
 reopened_none name bench steps = opened_none name bench steps (link_reopen_refusal (link_in bench))
 
 -- ---- what is done under the name of a link
 
-all_none : (takes : End → List Handing) (name : List ℕ) (events : List Event) → TellNoTakes events → AreLinesOfTakes takes name events
+all_none : (takes : End → List Handing) (name : List ℕ) (events : List Event) → HaveNoTakes events → AreLinesOfTakes takes name events
 all_none takes name events none = All-from_recursion (λ (line : Event). is_take_line line ≡ true → IsLineOfTake takes name line) events (worded events none)
   where
-    worded : (lines : List Event) → TellNoTakes lines → AllByRecursion (λ (line : Event). is_take_line line ≡ true → IsLineOfTake takes name line) lines
+    worded : (lines : List Event) → HaveNoTakes lines → AllByRecursion (λ (line : Event). is_take_line line ≡ true → IsLineOfTake takes name line) lines
     worded [] none = tt
     worded (line ∷ lines) none = ((λ is. absurd (true≢false (sym is ∙ none.0))), worded lines none.1)
 

@@ -65,22 +65,24 @@ module _ (answer : Answer) (run : RunState) (place : ℕ) (on : NamedLink) (foun
 
 -- ---- what a command tells that does something on a core
 
-module _ (answer : Answer) (run : RunState) (place : ℕ) (on : NamedCoreState) (found : slice_get run.objects.cores place ≡ Some on) where
+-- under a name that no link has
+module _ (answer : Answer) (run : RunState) where
   none_found : (name : List ℕ) (act : NamedAct (List ℕ)) (at : ℕ) (link : Option NamedLink) → is_none link ≡ true → effect_of_link answer run name act at link ≡ without_link_effect answer run name act
   none_found name act at None none = refl
   none_found name act at (Some link) none = absurd (true≢false (sym none))
 
-  none_located : (name : List ℕ) (act : NamedAct (List ℕ)) (at : Option ℕ) → is_none (option_and_then (slice_get run.objects.links) at) ≡ true → effect_by_link_place answer run name act at ≡ without_link_effect answer run name act
+  pub none_located : (name : List ℕ) (act : NamedAct (List ℕ)) (at : Option ℕ) → is_none (option_and_then (slice_get run.objects.links) at) ≡ true → effect_by_link_place answer run name act at ≡ without_link_effect answer run name act
   none_located name act None none = refl
   none_located name act (Some at) none = none_found name act at (slice_get run.objects.links at) none
 
+module _ (answer : Answer) (run : RunState) (place : ℕ) (on : NamedCoreState) (found : slice_get run.objects.cores place ≡ Some on) where
   core_named : (name : List ℕ) (act wanted : NamedAct (List ℕ)) (unlinked : Bool) → is_unlinked run name ≡ unlinked → cond (unlinked && is_place (core_place run.objects.cores name) place) (Some act) None ≡ Some wanted
       → (name_effect answer run name act).events ≡ (core_effect run.objects.images answer run.objects.is_quiet on run.steps wanted).events
   unfolding name_effect without_link_effect
   core_named name act wanted false none is = absurd (cc)
   core_named name act wanted true none is =
       let made = chosen (is_place (core_place run.objects.cores name) place) act wanted is in
-      ap (λ (effect : RunEffect). effect.events) (none_located name act (place_of run.objects.links name) none)
+      ap (λ (effect : RunEffect). effect.events) (none_located answer run name act (place_of run.objects.links name) none)
       ∙ ap (λ (at : Option ℕ). (effect_by_core_place answer run name act at).events) (same_place (core_place run.objects.cores name) place made.0)
       ∙ ap (λ (named : Option NamedCoreState). (effect_of_core answer run name act place named).events) found
       ∙ ap (λ (w : NamedAct (List ℕ)). (core_effect run.objects.images answer run.objects.is_quiet on run.steps w).events) made.1
@@ -92,7 +94,7 @@ module _ (answer : Answer) (run : RunState) (place : ℕ) (on : NamedCoreState) 
   core_line (line.Dump name image) wanted is = absurd (cc)
   core_line (line.On name act) wanted is = core_named name act wanted (is_unlinked run name) refl is
 
-  core_tells : (asked : Command) (wanted : NamedAct (List ℕ)) → done_on_core run place (line_of asked) ≡ Some wanted
+  pub core_tells : (asked : Command) (wanted : NamedAct (List ℕ)) → done_on_core run place (line_of asked) ≡ Some wanted
       → (effect_of answer run asked).events ≡ (core_effect run.objects.images answer run.objects.is_quiet on run.steps wanted).events
   unfolding effect_of
   core_tells asked wanted is = core_line (line_of asked) wanted is
@@ -113,7 +115,7 @@ module _ (told : Told) (commands : List Command) (runs : AreRunnable commands) (
       (item_at (λ (named : NamedLink). IsReachedBench named.bench) run.objects.links place on found (runs_reached told commands runs).links)
       (links_come told commands place on runs found))
 
-  reached : (on : NamedCoreState) → slice_get run.objects.cores place ≡ Some on → IsReachedCore on.core
+  pub reached : (on : NamedCoreState) → slice_get run.objects.cores place ≡ Some on → IsReachedCore on.core
   reached on found = item_at (λ (named : NamedCoreState). IsReachedCore named.core) run.objects.cores place on found (runs_reached told commands runs).cores
 
   -- an act on the link of a core

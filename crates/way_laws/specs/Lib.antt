@@ -2,3 +2,4 @@ pub mod Notes
 pub mod RunAccounts
 pub mod CoreAccounts
 pub mod WordedTakes
+pub mod CommandTakes

@@ -35,6 +35,10 @@ is_take_line (event.TookNs name caller number kind channel address) = true
 is_take_line (event.TookNsMalformed name caller number) = true
 is_take_line other = false
 
+-- none of these events is the line of a take
+abbrev pub TellNoTakes : List Event → Type 0
+TellNoTakes events = All (λ (line : Event). is_take_line line ≡ false) events
+
 -- an event is the line of a handing which these takes tell at an end, and they tell no other there
 pub record IsLineOfTake (takes : End → List Handing) (name : List ℕ) (line : Event) : Type 0 where
   pub end : End

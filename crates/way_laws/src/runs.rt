@@ -1,6 +1,6 @@
 //! Laws of what runs do on their links and tell of takes. Each is the contract of an empty function, and speaks of definitions alone.
 
-ghost use Rattle.std.specs.Prelude.{◌≡◌, ◌++◌, ℕ, Bool, List, Option, Some, option_map, IfSome, IsSomeAnd, slice_get, [], ◌∷◌};
+ghost use Rattle.std.specs.Prelude.{◌≡◌, ◌++◌, ℕ, Bool, false, List, Option, Some, None, option_map, IfSome, IsSomeAnd, slice_get, [], ◌∷◌};
 ghost use Rattle.rp_base.specs.declared.kinds.End.{End};
 ghost use Rattle.rp_base.specs.declared.kinds.Verdict.{Verdict};
 ghost use Rattle.lane_model.specs.declared.calls.CallEnd.TheVariants as call_end;
@@ -28,16 +28,18 @@ ghost use Rattle.link_bench.specs.Benches.{BenchState, link_in};
 ghost use Rattle.command_run.specs.NamedCores.{NamedCoreState};
 ghost use Rattle.link_commands.specs.NamedLinks.{NamedLink};
 ghost use Rattle.command_run.specs.CoreDrives.{step_events};
-ghost use Rattle.command_run.specs.Runs.{effect_of, run_of};
+ghost use Rattle.command_run.specs.Runs.{RunState, core_place, effect_of, place_of, run_of};
 ghost use Rattle.command_run.specs.Stores.{Answer, Told};
 ghost use Rattle.link_commands.specs.declared.acts.CoreAct.TheVariants as core;
+ghost use Rattle.link_commands.specs.declared.acts.Line.TheVariants as line;
 ghost use Rattle.link_commands.specs.declared.acts.NamedAct.{NamedAct};
 ghost use Rattle.link_commands.specs.declared.acts.NamedAct.TheVariants as under;
 ghost use Rattle.link_commands.specs.Acts.{line_of};
 ghost use Rattle.act_laws.specs.Accounts.{Account, IsAccount};
+ghost use Rattle.way_laws.specs.CommandTakes.{AreTakesOfRun, core_takes, line_may_take};
 ghost use Rattle.way_laws.specs.CoreAccounts.{core_account_of, core_act_deeds, done_on_core, drive_account, drive_takes};
 ghost use Rattle.way_laws.specs.RunAccounts.{account_of, done_at, named_takes};
-ghost use Rattle.way_laws.specs.WordedTakes.{AreLinesAmong, AreLinesOfTakes, ComesFromOpening, IsWordedTake};
+ghost use Rattle.way_laws.specs.WordedTakes.{AreLinesAmong, AreLinesOfTakes, ComesFromOpening, IsWordedTake, TellNoTakes};
 
 /// After each list of commands, and so after each front of a script, a link of the run comes by the run's own moves since it was made or last
 /// reopened; and what the run told of takes on it since then, at an end of it, is what those moves handed over there, in order and each once,
@@ -99,7 +101,9 @@ pub fn takes_are_worded()
 
 /// So each line of a take is the line of a handing that is told. Whatever a command of a run does under the name of a link of the script, it tells no
 /// such line without the one handing that its act tells at an end, and so does an act on the link of a core. Of a drive each such line is that of a
-/// handing that a step of the core's actors tells, and these are what the drive adds to the account of the core's link.
+/// handing that a step of the core's actors tells, and these are what the drive adds to the account of the core's link. No other command tells such a
+/// line: neither one that is no act on a link and no drive, nor one under a name that no link and no core has. So each line of a take that any command
+/// of a run tells is that of a handing which the command tells at an end of a link of the run, or of the link of a core.
 pub fn lines_have_takes()
     ensures link { (told : Told) (commands : List Command) (answer : Answer) (asked : Command) (place : ℕ) (wanted : NamedAct (List ℕ)) (on : NamedLink)
         → AreRunnable commands → IsRunnable asked
@@ -121,4 +125,14 @@ pub fn lines_have_takes()
     ensures drive_adds { (end : End) (count : ℕ) (name : List ℕ) (core : CoreState) (steps : ℕ) (account : Option Account) → IsReachedCore core
         → option_map (λ (now : Account). now.told) (drive_account end count name core steps account)
         ≡ option_map (λ (now : Account). now.told ++ drive_takes count name core steps end) account }
+    ensures named_core { (told : Told) (commands : List Command) (answer : Answer) (asked : Command) (place : ℕ) (wanted : NamedAct (List ℕ)) (on : NamedCoreState)
+        → AreRunnable commands → IsRunnable asked
+        → let run = (run_of told commands).last in
+        slice_get run.objects.cores place ≡ Some on → done_on_core run place (line_of asked) ≡ Some wanted
+        → AreLinesAmong (core_takes on run.steps wanted) on.name (effect_of answer run asked).events }
+    ensures others { (answer : Answer) (run : RunState) (asked : Command) → line_may_take (line_of asked) ≡ false → TellNoTakes (effect_of answer run asked).events }
+    ensures nameless { (answer : Answer) (run : RunState) (asked : Command) (name : List ℕ) (wanted : NamedAct (List ℕ)) → line_of asked ≡ line.On name wanted
+        → place_of run.objects.links name ≡ None → core_place run.objects.cores name ≡ None → TellNoTakes (effect_of answer run asked).events }
+    ensures every { (told : Told) (commands : List Command) (answer : Answer) (asked : Command) → AreRunnable commands → IsRunnable asked
+        → let run = (run_of told commands).last in AreTakesOfRun run (line_of asked) (effect_of answer run asked).events }
 {}

@@ -7,7 +7,7 @@ use crate::cuts::cut_at;
 use crate::digits::hex_value;
 use crate::payloads::{byte_of, pairs};
 use crate::places::{no_name, word_at};
-use rp_base::{Data, DriverKind, Endpoint, LifeState, Name, NsKind, Switch};
+use rp_base::{Data, DriverKind, Endpoint, LifeState, NAME_MOST, Name, NsKind, Switch};
 use std::alloc::{AllocError, Global};
 
 /// The number of decimal digits.
@@ -103,11 +103,11 @@ fn first_unescaped(text: &[u8]) -> Option<(u8, &[u8])>
 pub(crate) fn channel(word: &[u8]) -> Option<Name>
     ensures { result ≡ (if is_channel (without_escapes word.now) then Some (without_escapes word.now) else None) }
 {
-    let mut bytes = [0u8; 31];
+    let mut bytes = [0u8; NAME_MOST];
     let mut count = 0;
     let mut rest = word;
     while let Some((byte, more)) = first_unescaped(rest) {
-        if count == 31 {
+        if count == NAME_MOST {
             return None;
         }
         bytes[count] = byte;

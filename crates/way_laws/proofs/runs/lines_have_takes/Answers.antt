@@ -1,4 +1,6 @@
 use Rattle.way_laws.proofs.DriveLines.{drive_adds}
+use Rattle.way_laws.proofs.EveryLine.{core_are, every_line}
+use Rattle.way_laws.proofs.OtherLines.{nameless_none, others_none}
 use Rattle.way_laws.proofs.RunLines.{core_lines, drive_lines, link_lines}
 use Rattle.way_laws.proofs.TakeLines.{drive_lines as step_lines}
 use Rattle.way_laws.proofs.runs.lines_have_takes.Goals as goal
@@ -10,4 +12,8 @@ returns c = record {
   drive = λ told commands answer asked place count on runs may found done. drive_lines told commands runs answer asked may place count on found done;
   driven = λ name is_quiet core reached comes. step_lines name is_quiet core reached comes;
   drive_adds = λ end count name core steps account reached. drive_adds end count name core steps account reached;
+  named_core = λ told commands answer asked place wanted on runs may found done. core_are told commands runs answer asked may place wanted on found done;
+  others = λ answer run asked none. others_none answer run asked none;
+  nameless = λ answer run asked name wanted is linkless coreless. nameless_none answer run asked name wanted is linkless coreless;
+  every = λ told commands answer asked runs may. every_line told commands runs answer asked may;
 }
