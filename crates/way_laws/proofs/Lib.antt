@@ -17,3 +17,4 @@ pub mod DriveLines
 pub mod CoreLines
 pub mod OtherLines
 pub mod EveryLine
+pub mod WholeRuns

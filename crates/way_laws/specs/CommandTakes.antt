@@ -1,18 +1,21 @@
 -- Which commands of a run may tell lines of takes, and of which handings these are (own).
-use Rattle.std.specs.Prelude.{◌≡◌, ◌⊎◌, ℕ, Bool, true, false, List, [], slice_get, Some, All, if◌then◌else◌}
+use Rattle.std.specs.Prelude.{◌≡◌, ◌⊎◌, ℕ, Bool, true, false, List, [], ◌∷◌, ◌++◌, slice_get, Some, All, if◌then◌else◌}
 use Rattle.rp_base.specs.declared.kinds.End.{End}
 use Rattle.proc_state.specs.Lives.{is_up}
 use Rattle.lane_laws.specs.Handings.{Handing}
 use Rattle.journal.specs.declared.events.Event.{Event}
+use Rattle.script_lang.specs.declared.commands.Command.{Command}
 use Rattle.script_lang.specs.declared.recipes.RecipeLine.{RecipeLine}
 use Rattle.link_commands.specs.declared.acts.CoreAct.TheVariants as core
 use Rattle.link_commands.specs.declared.acts.Line.{Line}
 use Rattle.link_commands.specs.declared.acts.Line.TheVariants as line
 use Rattle.link_commands.specs.declared.acts.NamedAct.{NamedAct}
 use Rattle.link_commands.specs.declared.acts.NamedAct.TheVariants as under
+use Rattle.link_commands.specs.Acts.{line_of}
 use Rattle.link_commands.specs.NamedLinks.{NamedLink}
 use Rattle.command_run.specs.NamedCores.{NamedCoreState}
-use Rattle.command_run.specs.Runs.{RunState}
+use Rattle.command_run.specs.Runs.{RunState, run_of}
+use Rattle.command_run.specs.Stores.{Told}
 use Rattle.way_laws.specs.CoreAccounts.{core_act_deeds, done_on_core, drive_takes}
 use Rattle.way_laws.specs.RunAccounts.{done_at, named_takes}
 use Rattle.way_laws.specs.WordedTakes.{IsLineAmong, IsLineOfTake, is_take_line}
@@ -55,3 +58,11 @@ pub record IsTakeOfCore (run : RunState) (done : Line (List RecipeLine) (List �
 -- each of these events that is the line of a take is that of a handing which is told on a link of the run, or on that of a core
 abbrev pub AreTakesOfRun : RunState → Line (List RecipeLine) (List ℕ) → List Event → Type 0
 AreTakesOfRun run done events = All (λ (event : Event). is_take_line event ≡ true → IsTakeOfLink run done event ⊎ IsTakeOfCore run done event) events
+
+-- an event is the line of a take in the run of these commands: behind the first of them, one that is next has told a handing, on a link of the run then or on that of a core, of which it is the line
+pub record IsTakeInRun (told : Told) (commands : List Command) (event : Event) : Type 0 where
+  pub done : List Command
+  pub next : Command
+  pub more : List Command
+  pub parts : commands ≡ done ++ next ∷ more
+  pub take : IsTakeOfLink (run_of told done).last (line_of next) event ⊎ IsTakeOfCore (run_of told done).last (line_of next) event

@@ -1,6 +1,6 @@
 //! Laws of what runs do on their links and tell of takes. Each is the contract of an empty function, and speaks of definitions alone.
 
-ghost use Rattle.std.specs.Prelude.{◌≡◌, ◌++◌, ℕ, Bool, false, List, Option, Some, None, option_map, IfSome, IsSomeAnd, slice_get, [], ◌∷◌};
+ghost use Rattle.std.specs.Prelude.{◌≡◌, ◌++◌, ℕ, Bool, true, false, List, Option, Some, None, option_map, IfSome, IsSomeAnd, slice_get, All, [], ◌∷◌};
 ghost use Rattle.rp_base.specs.declared.kinds.End.{End};
 ghost use Rattle.rp_base.specs.declared.kinds.Verdict.{Verdict};
 ghost use Rattle.lane_model.specs.declared.calls.CallEnd.TheVariants as call_end;
@@ -18,6 +18,7 @@ ghost use Rattle.link_bench.specs.Acts.{IsFitAct, link_act};
 ghost use Rattle.link_bench.specs.Watchers.{nobody_sees};
 ghost use Rattle.core_actors.specs.declared.progress.Driven.TheVariants as driven;
 ghost use Rattle.core_laws.specs.BenchMoves.{IsReachedBench, IsReachedCore};
+ghost use Rattle.journal.specs.declared.events.Event.{Event};
 ghost use Rattle.link_commands.specs.CallEvents.{end_event, took_event};
 ghost use Rattle.crash_recover.specs.Cores.{CoreState};
 ghost use Rattle.crash_recover.specs.CoreActs.{act_on_core};
@@ -36,10 +37,10 @@ ghost use Rattle.link_commands.specs.declared.acts.NamedAct.{NamedAct};
 ghost use Rattle.link_commands.specs.declared.acts.NamedAct.TheVariants as under;
 ghost use Rattle.link_commands.specs.Acts.{line_of};
 ghost use Rattle.act_laws.specs.Accounts.{Account, IsAccount};
-ghost use Rattle.way_laws.specs.CommandTakes.{AreTakesOfRun, core_takes, line_may_take};
+ghost use Rattle.way_laws.specs.CommandTakes.{AreTakesOfRun, IsTakeInRun, core_takes, line_may_take};
 ghost use Rattle.way_laws.specs.CoreAccounts.{core_account_of, core_act_deeds, done_on_core, drive_account, drive_takes};
 ghost use Rattle.way_laws.specs.RunAccounts.{account_of, done_at, named_takes};
-ghost use Rattle.way_laws.specs.WordedTakes.{AreLinesAmong, AreLinesOfTakes, ComesFromOpening, IsWordedTake, TellNoTakes};
+ghost use Rattle.way_laws.specs.WordedTakes.{AreLinesAmong, AreLinesOfTakes, ComesFromOpening, IsWordedTake, TellNoTakes, is_take_line};
 
 /// After each list of commands, and so after each front of a script, a link of the run comes by the run's own moves since it was made or last
 /// reopened; and what the run told of takes on it since then, at an end of it, is what those moves handed over there, in order and each once,
@@ -103,7 +104,8 @@ pub fn takes_are_worded()
 /// such line without the one handing that its act tells at an end, and so does an act on the link of a core. Of a drive each such line is that of a
 /// handing that a step of the core's actors tells, and these are what the drive adds to the account of the core's link. No other command tells such a
 /// line: neither one that is no act on a link and no drive, nor one under a name that no link and no core has. So each line of a take that any command
-/// of a run tells is that of a handing which the command tells at an end of a link of the run, or of the link of a core.
+/// of a run tells is that of a handing which the command tells at an end of a link of the run, or of the link of a core. And so each line of
+/// a take in a whole run is that of a handing which the command that is next behind others tells so.
 pub fn lines_have_takes()
     ensures link { (told : Told) (commands : List Command) (answer : Answer) (asked : Command) (place : ℕ) (wanted : NamedAct (List ℕ)) (on : NamedLink)
         → AreRunnable commands → IsRunnable asked
@@ -135,4 +137,6 @@ pub fn lines_have_takes()
         → place_of run.objects.links name ≡ None → core_place run.objects.cores name ≡ None → TellNoTakes (effect_of answer run asked).events }
     ensures every { (told : Told) (commands : List Command) (answer : Answer) (asked : Command) → AreRunnable commands → IsRunnable asked
         → let run = (run_of told commands).last in AreTakesOfRun run (line_of asked) (effect_of answer run asked).events }
+    ensures whole { (told : Told) (commands : List Command) → AreRunnable commands
+        → All (λ (event : Event). is_take_line event ≡ true → IsTakeInRun told commands event) (run_of told commands).events }
 {}

@@ -3,6 +3,7 @@ use Rattle.way_laws.proofs.EveryLine.{core_are, every_line}
 use Rattle.way_laws.proofs.OtherLines.{nameless_none, others_none}
 use Rattle.way_laws.proofs.RunLines.{core_lines, drive_lines, link_lines}
 use Rattle.way_laws.proofs.TakeLines.{drive_lines as step_lines}
+use Rattle.way_laws.proofs.WholeRuns.{run_lines}
 use Rattle.way_laws.proofs.runs.lines_have_takes.Goals as goal
 
 pub returns : goal.returns
@@ -16,4 +17,5 @@ returns c = record {
   others = λ answer run asked none. others_none answer run asked none;
   nameless = λ answer run asked name wanted is linkless coreless. nameless_none answer run asked name wanted is linkless coreless;
   every = λ told commands answer asked runs may. every_line told commands runs answer asked may;
+  whole = λ told commands runs. run_lines told commands runs;
 }
