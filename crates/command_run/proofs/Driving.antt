@@ -15,7 +15,7 @@ use Rattle.command_run.specs.Outcomes.{CutsCore, DrivesHanding, DrivesOn, HandsC
 use Rattle.command_run.specs.CoreEffects.{CoreEffect, core_tells}
 use Rattle.command_run.specs.CoreLives.{core_stops}
 use Rattle.proc_state.specs.Lives.{is_up}
-use Rattle.command_run.specs.CoreDrives.{drive_effect, drive_end, drive_steps, is_crashed, is_over, rest_event, rests_or, step_events, step_then, with_earlier}
+use Rattle.command_run.specs.CoreDrives.{drive_effect, drive_end, drive_steps, is_crashed, is_over, rest_event, rests_or, step_events, step_then, effect_behind}
 use Rattle.command_run.proofs.Handed.{front_of_more, hands_front, hands_kept, hands_more}
 use Rattle.link_commands.proofs.Transcripts.{transcript-append}
 
@@ -189,7 +189,7 @@ kept_core effect left before after written answer did = record {
 }
 
 -- events before events
-told_twice : (first second : List Event) (effect : CoreEffect) → with_earlier first (with_earlier second effect) ≡ with_earlier (first ++ second) effect
+told_twice : (first second : List Event) (effect : CoreEffect) → effect_behind first (effect_behind second effect) ≡ effect_behind (first ++ second) effect
 told_twice first second effect = ap (λ (events : List Event). record effect { events = events }) (sym (append_assoc first second effect.events))
 
 module _ (name : List ℕ) (is_quiet : Bool) (count : ℕ) (first : CoreState) (before : LogState) where
@@ -221,15 +221,15 @@ module _ (name : List ℕ) (is_quiet : Bool) (count : ℕ) (first : CoreState) (
             let same : on.done + 1 + later ≡ on.done + suc later = omega arith in
             ap (λ (n : ℕ). drive_steps n name is_quiet first before.steps) same
             ∙ on.rest (suc later)
-            ∙ ap (with_earlier on.told) (steps_more name is_quiet later core log.steps goes few)
-            ∙ ap (λ (n : CoreState). with_earlier on.told (with_earlier events (drive_steps later name is_quiet n (log.steps + 1)))) (sym steps)
-            ∙ ap (λ (s : ℕ). with_earlier on.told (with_earlier events (drive_steps later name is_quiet next s))) (sym (ap (λ (l : LogState). l.steps) keeps))
+            ∙ ap (effect_behind on.told) (steps_more name is_quiet later core log.steps goes few)
+            ∙ ap (λ (n : CoreState). effect_behind on.told (effect_behind events (drive_steps later name is_quiet n (log.steps + 1)))) (sym steps)
+            ∙ ap (λ (s : ℕ). effect_behind on.told (effect_behind events (drive_steps later name is_quiet next s))) (sym (ap (λ (l : LogState). l.steps) keeps))
             ∙ told_twice on.told events (drive_steps later name is_quiet next after.steps);
       }
 
   -- what is left of it does the rest
   drive_rest : (left : ℕ) (core : CoreState) (log : LogState) (on : DrivesOn name is_quiet count first before left core log)
-      → drive_steps count name is_quiet first before.steps ≡ with_earlier on.told (drive_steps left name is_quiet core log.steps)
+      → drive_steps count name is_quiet first before.steps ≡ effect_behind on.told (drive_steps left name is_quiet core log.steps)
   drive_rest left core log on = ap (λ (n : ℕ). drive_steps n name is_quiet first before.steps) (sym on.all) ∙ on.rest left
 
   -- what is left of it does this, and so the drive ends
@@ -237,7 +237,7 @@ module _ (name : List ℕ) (is_quiet : Bool) (count : ℕ) (first : CoreState) (
       → drive_steps left name is_quiet core log.steps ≡ effect → HasCoreEffect effect now log after answer
       → HasCoreEffect (drive_steps count name is_quiet first before.steps) now before after answer
   drive_ends left core now log after effect answer on is did =
-      subst (λ (e : CoreEffect). HasCoreEffect e now before after answer) (sym (drive_rest left core log on ∙ ap (with_earlier on.told) is))
+      subst (λ (e : CoreEffect). HasCoreEffect e now before after answer) (sym (drive_rest left core log on ∙ ap (effect_behind on.told) is))
       (record {
         core = did.core;
         steps = did.steps;
@@ -260,14 +260,14 @@ module _ (name : List ℕ) (is_quiet : Bool) (count : ℕ) (first : CoreState) (
 
   module _ (written : Option (List ℕ)) (left : ℕ) (core : CoreState) (log : LogState) (now : Option (List ℕ)) (h : DrivesHanding name is_quiet count first before written left core log now) where
     -- what is left of it does the rest
-    handing_rest : drive_steps count name is_quiet first before.steps ≡ with_earlier h.told (drive_steps left name is_quiet core log.steps)
+    handing_rest : drive_steps count name is_quiet first before.steps ≡ effect_behind h.told (drive_steps left name is_quiet core log.steps)
     handing_rest = ap (λ (n : ℕ). drive_steps n name is_quiet first before.steps) (sym h.all) ∙ h.rest left
 
     -- a drive of its steps so far
-    handing_done : drive_steps h.done name is_quiet first before.steps ≡ with_earlier h.told (core_tells core log.steps (unwrap_or (rest_event name core) (event.Paused name)))
+    handing_done : drive_steps h.done name is_quiet first before.steps ≡ effect_behind h.told (core_tells core log.steps (unwrap_or (rest_event name core) (event.Paused name)))
     handing_done =
         let none : h.done + 0 ≡ h.done = omega arith in
-        ap (λ (n : ℕ). drive_steps n name is_quiet first before.steps) (sym none) ∙ h.rest 0 ∙ ap (with_earlier h.told) (steps_none name is_quiet core log.steps)
+        ap (λ (n : ℕ). drive_steps n name is_quiet first before.steps) (sym none) ∙ h.rest 0 ∙ ap (effect_behind h.told) (steps_none name is_quiet core log.steps)
 
     -- some steps more
     pub handing_on : (next_left : ℕ) (next : CoreState) (after : LogState) → DrivesOn name is_quiet left core log next_left next after
@@ -281,7 +281,7 @@ module _ (name : List ℕ) (is_quiet : Bool) (count : ℕ) (first : CoreState) (
       rest = λ later.
           let same : h.done + on.done + later ≡ h.done + (on.done + later) = omega arith in
           ap (λ (n : ℕ). drive_steps n name is_quiet first before.steps) same
-          ∙ h.rest (on.done + later) ∙ ap (with_earlier h.told) (on.rest later) ∙ told_twice h.told on.told (drive_steps later name is_quiet next after.steps);
+          ∙ h.rest (on.done + later) ∙ ap (effect_behind h.told) (on.rest later) ∙ told_twice h.told on.told (drive_steps later name is_quiet next after.steps);
     }
 
     -- what is kept is handed on, all of it or nothing
@@ -293,7 +293,7 @@ module _ (name : List ℕ) (is_quiet : Bool) (count : ℕ) (first : CoreState) (
       told = h.told;
       hands = subst (λ (bytes : List ℕ). Hands written before.lines new after.lines bytes) (append-nil (transcript h.told))
           (hands_more written now new before.lines log.lines after.lines (transcript h.told) [] h.hands handed);
-      rest = λ later. h.rest later ∙ ap (λ (steps : ℕ). with_earlier h.told (drive_steps later name is_quiet core steps)) (sym same);
+      rest = λ later. h.rest later ∙ ap (λ (steps : ℕ). effect_behind h.told (drive_steps later name is_quiet core steps)) (sym same);
     }
 
     -- what is left of it is done, and so the drive ends

@@ -6,7 +6,7 @@ use Rattle.std.specs.Io.KnownBytes.{Appends}
 use Rattle.rp_io.specs.Contents.{AppendsFront}
 use Rattle.command_run.specs.declared.faults.OutputFault.{OutputFault}
 use Rattle.command_run.specs.declared.faults.OutputFault.TheVariants as output_fault
-use Rattle.command_run.specs.Fetches.{IfWrite}
+use Rattle.command_run.specs.Fetches.{IfSinkFailed}
 use Rattle.link_commands.specs.Logs.{Hands}
 
 -- nothing was appended
@@ -84,9 +84,9 @@ front_after a b c x y whole front = record {
 
 module _ (T holds : Type 0) (result : Result T OutputFault) where
   -- the sink failed
-  pub on_write : result ≡ Err output_fault.Failed → holds → IfErr result (λ why. IfWrite why holds)
-  on_write is found = subst (λ (r : Result T OutputFault). IfErr r (λ why. IfWrite why holds)) (sym is) found
+  pub on_write : result ≡ Err output_fault.Failed → holds → IfErr result (λ why. IfSinkFailed why holds)
+  on_write is found = subst (λ (r : Result T OutputFault). IfErr r (λ why. IfSinkFailed why holds)) (sym is) found
 
   -- memory ran out
-  pub no_write : result ≡ Err output_fault.NoMemory → IfErr result (λ why. IfWrite why holds)
-  no_write is = subst (λ (r : Result T OutputFault). IfErr r (λ why. IfWrite why holds)) (sym is) tt
+  pub no_write : result ≡ Err output_fault.NoMemory → IfErr result (λ why. IfSinkFailed why holds)
+  no_write is = subst (λ (r : Result T OutputFault). IfErr r (λ why. IfSinkFailed why holds)) (sym is) tt

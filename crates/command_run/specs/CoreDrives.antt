@@ -36,8 +36,8 @@ abbrev pub step_events : List ℕ → Bool → DriveStep → List Event
 step_events name is_quiet step = driven_events name is_quiet step.core.bench step.driven
 
 -- the same events before those of an effect
-abbrev pub with_earlier : List Event → CoreEffect → CoreEffect
-with_earlier earlier effect = record effect { events = earlier ++ effect.events }
+abbrev pub effect_behind : List Event → CoreEffect → CoreEffect
+effect_behind earlier effect = record effect { events = earlier ++ effect.events }
 
 -- whether a core crashed, and is not recovered
 abbrev pub is_crashed : LifeState → Bool
@@ -65,7 +65,7 @@ drive_end left name core steps =
 
 -- a step of the actors, and what follows
 abbrev pub step_then : List ℕ → Bool → DriveStep → (CoreState → CoreEffect) → CoreEffect
-step_then name is_quiet step later = with_earlier (step_events name is_quiet step) (later step.core)
+step_then name is_quiet step later = effect_behind (step_events name is_quiet step) (later step.core)
 
 -- so many steps of the actors, fewer where the core crashed or both have nothing to do before
 unfoldable pub drive_steps : ℕ → List ℕ → Bool → CoreState → ℕ → CoreEffect

@@ -59,9 +59,9 @@ EndsCut output_fault.Failed text old new before now = AppendsFront old new text 
 EndsCut output_fault.NoMemory text old new before now = AppendsFront old new text × (now ≡ before)
 
 -- this holds where the sink failed
-abbrev pub IfWrite : OutputFault → Type 0 → Type 0
-IfWrite output_fault.Failed holds = holds
-IfWrite output_fault.NoMemory holds = Unit {0}
+abbrev pub IfSinkFailed : OutputFault → Type 0 → Type 0
+IfSinkFailed output_fault.Failed holds = holds
+IfSinkFailed output_fault.NoMemory holds = Unit {0}
 
 -- what a command tells was cut off, whatever the store has
 abbrev pub IsToldCut : OutputFault → RunState → Command → LogState → Option (List ℕ) → Option (List ℕ) → ℕ → ℕ → Type 0

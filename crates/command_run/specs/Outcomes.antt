@@ -9,7 +9,7 @@ use Rattle.link_commands.specs.declared.stops.Stop.{Stop}
 use Rattle.link_commands.specs.Logs.{Hands, LogState}
 use Rattle.command_run.specs.declared.core_drives.TheConstants.{STRETCH}
 use Rattle.command_run.specs.CoreEffects.{CoreEffect}
-use Rattle.command_run.specs.CoreDrives.{drive_steps, with_earlier}
+use Rattle.command_run.specs.CoreDrives.{drive_steps, effect_behind}
 use Rattle.command_run.specs.Runs.{ObjectsState, RunEffect}
 
 -- a command left of its core, told and answered what this effect says
@@ -25,7 +25,7 @@ pub record DrivesOn (name : List ℕ) (is_quiet : Bool) (count : ℕ) (first : C
   pub all : done + left ≡ count
   pub told : List Event
   pub lines : log.lines ≡ before.lines ++ transcript told
-  pub rest : (more : ℕ) → drive_steps (done + more) name is_quiet first before.steps ≡ with_earlier told (drive_steps more name is_quiet core log.steps)
+  pub rest : (more : ℕ) → drive_steps (done + more) name is_quiet first before.steps ≡ effect_behind told (drive_steps more name is_quiet core log.steps)
 
 -- the same of one of which some lines were handed on
 pub record DrivesHanding (name : List ℕ) (is_quiet : Bool) (count : ℕ) (first : CoreState) (before : LogState) (written : Option (List ℕ)) (left : ℕ) (core : CoreState) (log : LogState) (now : Option (List ℕ)) : Type 0 where
@@ -33,7 +33,7 @@ pub record DrivesHanding (name : List ℕ) (is_quiet : Bool) (count : ℕ) (firs
   pub all : done + left ≡ count
   pub told : List Event
   pub hands : Hands written before.lines now log.lines (transcript told)
-  pub rest : (more : ℕ) → drive_steps (done + more) name is_quiet first before.steps ≡ with_earlier told (drive_steps more name is_quiet core log.steps)
+  pub rest : (more : ℕ) → drive_steps (done + more) name is_quiet first before.steps ≡ effect_behind told (drive_steps more name is_quiet core log.steps)
 
 -- behind so many steps a drive has told these events, of which less than a piece is kept beside what it told since one of its last steps, or since it came to rest or the run had no step left
 pub record KeepsLast (events : ℕ → List Event) (count : ℕ) (told : List Event) (lines : List ℕ) : Type 0 where

@@ -3,7 +3,7 @@ ghost use Rattle.journal.specs.declared.events.Event.TheVariants as event;
 ghost use Rattle.journal.specs.Lines.{transcript};
 ghost use Rattle.link_commands.specs.Logs.{Keeps, KeepsLess};
 ghost use Rattle.command_run.specs.Outcomes.{CutsCore, DrivesHanding, DrivesOn, HandsCoreEffect, HasCoreEffect, KeepsWhole};
-ghost use Rattle.command_run.specs.Fetches.{EndsCut, IfWrite};
+ghost use Rattle.command_run.specs.Fetches.{EndsCut, IfSinkFailed};
 ghost use Rattle.rp_base.specs.declared.limits.TheConstants.{STEPS_MOST};
 ghost use Rattle.command_run.specs.declared.core_drives.TheConstants.{STRETCH};
 ghost use Rattle.core_actors.specs.ActorSteps.{HoldsDrivenTaken};
@@ -72,7 +72,7 @@ impl NamedCore {
         ensures same { OnOk result (K.faults out.new ≡ K.faults out.old) }
         ensures cut { IfErr result (λ why. EndsCut why (log.old.lines ++ transcript (drive_effect self.old.name is_quiet self.old.core log.old.steps count).events)
             (K.written out.old) (K.written out.new) (K.faults out.old) (K.faults out.new)) }
-        ensures paused { IfErr result (λ why. IfWrite why (CutsCore (λ done. drive_effect self.old.name is_quiet self.old.core log.old.steps done)
+        ensures paused { IfErr result (λ why. IfSinkFailed why (CutsCore (λ done. drive_effect self.old.name is_quiet self.old.core log.old.steps done)
             count self.new.core log.old.lines (K.written out.old) (K.written out.new))) }
         ensures less { IfOk result (λ _. KeepsLess log.old → KeepsWhole (λ done. (drive_effect self.old.name is_quiet self.old.core log.old.steps done).events) count log.new.lines) }
     {
@@ -97,7 +97,7 @@ impl NamedCore {
         ensures same { OnOk result (K.faults out.new ≡ K.faults out.old) }
         ensures cut { IfErr result (λ why. EndsCut why (log.old.lines ++ transcript (drive_steps count self.old.name is_quiet self.old.core log.old.steps).events)
             (K.written out.old) (K.written out.new) (K.faults out.old) (K.faults out.new)) }
-        ensures paused { IfErr result (λ why. IfWrite why (CutsCore (λ done. drive_steps done self.old.name is_quiet self.old.core log.old.steps)
+        ensures paused { IfErr result (λ why. IfSinkFailed why (CutsCore (λ done. drive_steps done self.old.name is_quiet self.old.core log.old.steps)
             count self.new.core log.old.lines (K.written out.old) (K.written out.new))) }
         ensures near { IfOk result (λ left. (left ≤ STRETCH) ⊎ (is_over self.old.name self.new.core log.new.steps ≡ true)) }
         ensures less { IfOk result (λ _. KeepsLess log.old → KeepsLess log.new) }

@@ -13,7 +13,7 @@ ghost use Rattle.command_run.specs.Outcomes.{CutsRun, HandsRunEffect, HasRunEffe
 ghost use Rattle.command_run.specs.Runs.{core_made_effect, core_place, is_full, regions_of, core_named, find_core, act_asks, core_act, effect_of, has_image, image_effect, image_place, made_effect, name_effect, new_run, place_of, quiet_effect, unnamed_effect};
 ghost use Rattle.command_run.specs.Lookups.{bench_named, core_taken, find_link, is_bare, link_taken, without_core, without_link};
 ghost use Rattle.command_run.specs.Faults.{store_command_fault};
-ghost use Rattle.command_run.specs.Fetches.{EndsCut, IfWrite, KeepsDriven, RunsTold};
+ghost use Rattle.command_run.specs.Fetches.{EndsCut, IfSinkFailed, KeepsDriven, RunsTold};
 
 use crate::cores::{NamedCore, is_on};
 use crate::faults::{OutputFault, StoreFault};
@@ -190,7 +190,7 @@ impl Objects {
         ensures same { OnOk result (K.faults out.new ≡ K.faults out.old) }
         ensures cut { IfErr result (λ why. EndsCut why (log.old.lines ++ transcript (name_effect (Err fetch_fault.Missing) (record { objects = self.old; steps = log.old.steps }) name (under.Core (core.Drive count))).events)
             (K.written out.old) (K.written out.new) (K.faults out.old) (K.faults out.new)) }
-        ensures paused { IfErr result (λ why. IfWrite why (CutsRun (λ done. name_effect (Err fetch_fault.Missing) (record { objects = self.old; steps = log.old.steps }) name (under.Core (core.Drive done)))
+        ensures paused { IfErr result (λ why. IfSinkFailed why (CutsRun (λ done. name_effect (Err fetch_fault.Missing) (record { objects = self.old; steps = log.old.steps }) name (under.Core (core.Drive done)))
             count self.new log.old.lines (K.written out.old) (K.written out.new))) }
         ensures less { IfOk result (λ _. KeepsDriven (record { objects = self.old; steps = log.old.steps }) name count log.old log.new.lines) }
     {

@@ -30,7 +30,7 @@ abbrev pub is_rest : Driven → Bool
 is_rest driven.Idle = true
 is_rest other = false
 
--- the first step of a call; nothing, where the call can't begin
+-- the first step of a call. One that can't begin does nothing; no run gets there
 abbrev pub begun_step : BenchState → ℕ → Wish → BenchWalk
 begun_step bench caller wanted =
     if is_some (begin_fault bench caller wanted) then record { bench = bench; steps = 0; reach = reach.Limit }

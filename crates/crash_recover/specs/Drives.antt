@@ -88,7 +88,7 @@ run_by core load map = record {
   driven = drive_of_work (work_of load.memory map (is_some core.bench) core.actors.worker);
 }
 
--- a record that the worker runs of a core that is loaded; a worker without memory asks for nothing
+-- a record that the worker runs of a core that is loaded. A worker without memory asks for nothing; no running core is that
 abbrev pub record_run : CoreState → Option LoadState → DriveStep
 record_run core None = record { core = core; driven = driven.Stepped }
 record_run core (Some load) = run_by core load (placed_map core.regions load)

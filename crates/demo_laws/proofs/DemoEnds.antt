@@ -56,7 +56,7 @@ use Rattle.link_commands.specs.declared.acts.Making.TheVariants as making
 use Rattle.link_commands.specs.declared.acts.NamedAct.{NamedAct}
 use Rattle.link_commands.specs.declared.acts.NamedAct.TheVariants as under
 use Rattle.command_run.specs.CoreCommands.{core_act_effect, core_effect, driver_effect_unless, driver_effect}
-use Rattle.command_run.specs.CoreDrives.{step_events, with_earlier}
+use Rattle.command_run.specs.CoreDrives.{step_events, effect_behind}
 use Rattle.link_commands.specs.LinkCommands.{link_effect}
 use Rattle.link_commands.specs.NamedLinks.{NamedLink}
 use Rattle.command_run.specs.Stores.{store_of}
@@ -166,14 +166,14 @@ module _ (Fits : WorkerState → Type 0) (records credit : WorkerState → ℕ) 
   after_step : (more : ℕ) (name : List ℕ) (is_quiet : Bool) (next : CoreState) (events : List Event) (steps within : ℕ) (core : CoreState) → steps + within ≤ STEPS_MOST → 1 ≤ within → next.regions ≡ standard_regions
       → ((next.life.state ≡ Crashed) ⊎ ((next.life.state ≡ Running) × DrivesWithin next (within - 1)))
       → (next.life.state ≡ Running → DrivesWithin next (within - 1) → steps + 1 + (within - 1) ≤ STEPS_MOST → LeavesCalm (steps + 1) (within - 1) (drive_steps more name is_quiet next (steps + 1)))
-      → LeavesCalm steps within (cond (steps == STEPS_MOST) (core_stops core steps) (with_earlier events (drive_steps more name is_quiet next (steps + 1))))
+      → LeavesCalm steps within (cond (steps == STEPS_MOST) (core_stops core steps) (effect_behind events (drive_steps more name is_quiet next (steps + 1))))
   after_step more name is_quiet next events steps within core few some same came later =
-      cond_both (steps == STEPS_MOST) (core_stops core steps) (with_earlier events (drive_steps more name is_quiet next (steps + 1))) (LeavesCalm steps within)
+      cond_both (steps == STEPS_MOST) (core_stops core steps) (effect_behind events (drive_steps more name is_quiet next (steps + 1))) (LeavesCalm steps within)
       (λ full. absurd (omega (arith, few, some, eqb-true steps STEPS_MOST full)))
       (λ _. then_rests came)
     where
       then_rests : ((next.life.state ≡ Crashed) ⊎ ((next.life.state ≡ Running) × DrivesWithin next (within - 1)))
-          → LeavesCalm steps within (with_earlier events (drive_steps more name is_quiet next (steps + 1)))
+          → LeavesCalm steps within (effect_behind events (drive_steps more name is_quiet next (steps + 1)))
       then_rests (inl crashed) =
           let left = crashed_rests more name is_quiet next (steps + 1) same crashed in
           record { calm = left.calm; ending = left.ending; steps = omega (arith, left.steps, some) }

@@ -21,7 +21,7 @@ use Rattle.link_commands.specs.declared.stops.Stop.{Stop}
 use Rattle.link_commands.specs.Logs.{LogState}
 use Rattle.command_run.specs.Outcomes.{CutsRun, HandsRunEffect}
 use Rattle.command_run.specs.Faults.{output_command_fault}
-use Rattle.command_run.specs.Fetches.{EndsCut, IfWrite, IsToldFor, KeepsDrive, KeepsDriven, RunsTold, drive_line}
+use Rattle.command_run.specs.Fetches.{EndsCut, IfSinkFailed, IsToldFor, KeepsDrive, KeepsDriven, RunsTold, drive_line}
 use Rattle.command_run.specs.Runs.{ObjectsState, RunEffect, RunState, act_asks, asked_name, core_act, effect_of, name_effect}
 use Rattle.command_run.specs.Stores.{Shelf, answer_for}
 use Rattle.command_run.proofs.Shelves.{shelf_of}
@@ -41,7 +41,7 @@ module _ (run : RunState) (asking : Command) (name : List ℕ) (count : ℕ) (dr
   drive_told : (images : Option (List (List ℕ × List ℕ))) (left : ObjectsState) (before after : LogState) (old new : Option (List ℕ)) (faults now was : ℕ) (result : Result (Option Stop) OutputFault)
       → IfOk result (λ ending. HandsRunEffect (name_effect (Err fetch_fault.Missing) run name (under.Core (core.Drive count))) left before after old new ending) → OnOk result (now ≡ faults)
       → IfErr result (λ why. EndsCut why (before.lines ++ transcript (name_effect (Err fetch_fault.Missing) run name (under.Core (core.Drive count))).events) old new faults now)
-      → IfErr result (λ why. IfWrite why (CutsRun (λ done. name_effect (Err fetch_fault.Missing) run name (under.Core (core.Drive done))) count left before.lines old new))
+      → IfErr result (λ why. IfSinkFailed why (CutsRun (λ done. name_effect (Err fetch_fault.Missing) run name (under.Core (core.Drive done))) count left before.lines old new))
       → RunsTold (result_map_both (λ ending. ending) output_command_fault result) images run asking left before after old new faults now was was
   drive_told images left before after old new faults now was (Ok answer) did same cut paused =
       let shelf = shelf_of images (asked_name run.objects asking) (Err fetch_fault.Missing)

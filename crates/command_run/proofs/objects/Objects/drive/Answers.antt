@@ -10,7 +10,7 @@ use Rattle.link_commands.specs.declared.stops.Stop.{Stop}
 use Rattle.command_run.specs.declared.faults.OutputFault.{OutputFault}
 use Rattle.command_run.specs.declared.faults.OutputFault.TheVariants as output_fault
 use Rattle.command_run.specs.CoreDrives.{drive_effect}
-use Rattle.command_run.specs.Fetches.{EndsCut, IfWrite, KeepsDriven, drive_line}
+use Rattle.command_run.specs.Fetches.{EndsCut, IfSinkFailed, KeepsDriven, drive_line}
 use Rattle.link_commands.specs.Logs.{KeepsLess}
 use Rattle.command_run.specs.Outcomes.{CutsCore, CutsRun, HandsCoreEffect, HandsRunEffect, KeepsWhole}
 use Rattle.command_run.specs.NamedCores.{NamedCoreState}
@@ -20,7 +20,7 @@ use Rattle.command_run.proofs.Placing.{drive_cut, drive_keeps, drive_placed, dri
 use Rattle.command_run.proofs.objects.Objects.drive.Goals as goal
 
 -- where a drive of a core was cut off, so is what holds of it
-cut_so : (result : Result (Option Stop) OutputFault) (First Second : Type 0) → (First → Second) → IfErr result (λ why. IfWrite why First) → IfErr result (λ why. IfWrite why Second)
+cut_so : (result : Result (Option Stop) OutputFault) (First Second : Type 0) → (First → Second) → IfErr result (λ why. IfSinkFailed why First) → IfErr result (λ why. IfSinkFailed why Second)
 cut_so (Ok answer) First Second so cut = cut
 cut_so (Err output_fault.Failed) First Second so cut = so cut
 cut_so (Err output_fault.NoMemory) First Second so cut = cut
@@ -67,7 +67,7 @@ returns-in-Some g c =
           subst (λ (objects : ObjectsState). cut (name_effect (Err fetch_fault.Missing) (record { objects = objects; steps = log.steps }) c.args.name (under.Core (core.Drive c.args.count))).events) c.self.view_is
           (subst cut (sym (ap (λ (e : RunEffect). e.events) (drive_placed (Err fetch_fault.Missing) run c.args.name c.args.count place named bare placed found))) c.drive_handing.ensures.cut);
       paused =
-          subst (λ (objects : ObjectsState). IfErr c.drive_handing.result (λ why. IfWrite why (cuts objects))) c.self.view_is
+          subst (λ (objects : ObjectsState). IfErr c.drive_handing.result (λ why. IfSinkFailed why (cuts objects))) c.self.view_is
           (cut_so c.drive_handing.result (CutsCore (λ done. drive_effect named.name is_quiet named.core log.steps done) c.args.count now.core log.lines written after) (cuts run.objects)
           (drive_cut (Err fetch_fault.Missing) run c.args.name c.args.count place named now log.lines written after bare placed found c.drive_handing.ensures.name)
           c.drive_handing.ensures.paused);
