@@ -101,7 +101,7 @@ pub fn takes_are_worded()
 {}
 
 /// So each line of a take is the line of a handing that is told. Whatever a command of a run does under the name of a link of the script, it tells no
-/// such line without the one handing that its act tells at an end, and so does an act on the link of a core. Of a drive each such line is that of a
+/// such line without the one handing that its act tells at an end, and neither does an act on the link of a core. Of a drive each such line is that of a
 /// handing that a step of the core's actors tells, and these are what the drive adds to the account of the core's link. No other command tells such a
 /// line: neither one that is no act on a link and no drive, nor one under a name that no link and no core has. So each line of a take that any command
 /// of a run tells is that of a handing which the command tells at an end of a link of the run, or of the link of a core. And so each line of
