@@ -1,5 +1,5 @@
 -- Deeds that close no link, and deeds that tell nothing: each act of callers is of the first kind, and all that the manager does is of the second.
-use Rattle.std.proofs.Common.{◌≡◌, ℕ, zero, suc, ◌+◌, ◌-◌, ◌++◌, ◌==◌, Bool, true, false, List, [], ◌∷◌, Option, Some, None, is_some, Result, Ok, Err, refl}
+use Rattle.std.proofs.Common.{◌≡◌, ℕ, zero, suc, ◌+◌, ◌-◌, ◌++◌, ◌==◌, Bool, true, false, List, [], ◌∷◌, Option, Some, None, Result, Ok, Err, refl}
 use Rattle.std.specs.Prelude.{if◌then◌else◌}
 use Rattle.rp_base.specs.declared.kinds.End.{End}
 use Rattle.rp_base.specs.declared.kinds.End.TheVariants as side
@@ -136,7 +136,7 @@ module _ {W : Type 0} (sees : Seeing W) where
 link_open : (bench : BenchState) (caller : ℕ) (wanted : Wish) → CloseNone (link_deeds bench caller wanted)
 link_open bench caller wanted =
     either_open (is_in_call bench caller) (advance_deeds bench 0 0 caller (begun_call_of bench caller)) (begun_deeds bench caller wanted) (advance_open bench 0 0 caller (begun_call_of bench caller))
-    (either_open (is_some (begin_fault bench caller wanted)) no_deeds _ tt (call_open ((start_walk bench 0 caller wanted).steps - 0) caller (link_in bench).era.inc wanted))
+    (call_open ((start_walk bench 0 caller wanted).steps - 0) caller (link_in bench).era.inc wanted)
 
 actor_open : (found : Option BenchState) (caller : ℕ) (wanted : Wish) → CloseNone (actor_link_deeds found caller wanted)
 actor_open None caller wanted = tt

@@ -1,5 +1,5 @@
 -- What the actors of a core, its crash and its recovery do of its link and tell of takes (own).
-use Rattle.std.specs.Prelude.{ℕ, zero, suc, ◌+◌, ◌-◌, ◌==◌, true, List, [], Option, Some, None, is_some, Result, Ok, Err, if◌then◌else◌}
+use Rattle.std.specs.Prelude.{ℕ, zero, suc, ◌+◌, ◌-◌, ◌==◌, true, List, [], Option, Some, None, Result, Ok, Err, if◌then◌else◌}
 use Rattle.rp_base.specs.declared.kinds.End.{End}
 use Rattle.rp_base.specs.declared.kinds.End.TheVariants as side
 use Rattle.rp_base.specs.declared.limits.TheConstants.{CALLERS_MOST}
@@ -14,7 +14,7 @@ use Rattle.lane_laws.specs.Moves.{Close, Enlist, Reclaim}
 use Rattle.link_bench.specs.BenchCrashes.{after_close}
 use Rattle.link_bench.specs.BenchEnds.{is_first, is_remote, without_one, without_other}
 use Rattle.link_bench.specs.declared.benches.Reach.TheVariants as reach
-use Rattle.link_bench.specs.Benches.{BenchState, begin_fault, begun_call_of, is_in_call, link_in, start_walk}
+use Rattle.link_bench.specs.Benches.{BenchState, begun_call_of, is_in_call, link_in, start_walk}
 use Rattle.core_actors.specs.declared.actors.Actor.{Actor}
 use Rattle.core_actors.specs.declared.actors.Actor.TheVariants as actor
 use Rattle.crash_recover.specs.declared.core_answers.Crash.{Crash}
@@ -74,11 +74,10 @@ ready_deeds bench = renewed_deeds (link_reclaim_refusal (link_in bench) 0)
 
 -- ---- steps of the actors
 
--- the first step of a call, where it can begin
+-- the first step of a call
 abbrev pub begun_deeds : BenchState → ℕ → Wish → Deeds
 begun_deeds bench caller wanted =
-    if is_some (begin_fault bench caller wanted) then no_deeds
-    else walk_deeds caller (start_walk bench 0 caller wanted) (call_moves ((start_walk bench 0 caller wanted).steps - 0) caller (link_in bench).era.inc wanted)
+    let walk = start_walk bench 0 caller wanted in walk_deeds caller walk (call_moves (walk.steps - 0) caller (link_in bench).era.inc wanted)
 
 -- a step on the link: a call under way goes on by one step, else one begins
 abbrev pub link_deeds : BenchState → ℕ → Wish → Deeds

@@ -1,5 +1,5 @@
 -- What the actors of a core do on its link, step by step, and when they have nothing to do (own).
-use Rattle.std.specs.Prelude.{ℕ, ◌==◌, Bool, true, false, not, ◌&&◌, ◌||◌, List, [], ◌∷◌, ◌++◌, length, drop, Option, Some, None, is_some, if◌then◌else◌}
+use Rattle.std.specs.Prelude.{ℕ, ◌==◌, Bool, true, false, not, ◌&&◌, ◌||◌, List, [], ◌∷◌, ◌++◌, length, Option, Some, None, is_some, if◌then◌else◌}
 use Rattle.addr_translate.specs.Maps.{Mapping}
 use Rattle.channel_bus.specs.Sides.{EndState}
 use Rattle.lane_model.specs.Links.{LinkState}
@@ -30,15 +30,9 @@ abbrev pub is_rest : Driven → Bool
 is_rest driven.Idle = true
 is_rest other = false
 
--- the first step of a call. One that can't begin does nothing; no run gets there
-abbrev pub begun_step : BenchState → ℕ → Wish → BenchWalk
-begun_step bench caller wanted =
-    if is_some (begin_fault bench caller wanted) then record { bench = bench; steps = 0; reach = reach.Limit }
-    else start_walk bench 0 caller wanted
-
 -- what a step does on the link: a call under way goes on by one step, else one begins and does its first
 abbrev pub link_step : BenchState → ℕ → Wish → BenchWalk
-link_step bench caller wanted = if is_in_call bench caller then advance_walk bench 0 0 caller else begun_step bench caller wanted
+link_step bench caller wanted = if is_in_call bench caller then advance_walk bench 0 0 caller else start_walk bench 0 caller wanted
 
 -- the first call, or a take where there is none
 abbrev pub first_or_take : List Wish → Wish
@@ -57,21 +51,18 @@ host_at_step bench actors = host_at_step_as (is_in_call bench 0) actors
 
 -- the host actor, by how far its call came
 abbrev pub host_after_step : ActorsState → BenchState → Reach → ActorsState
-host_after_step actors bench (reach.At step) = actors
 host_after_step actors bench (reach.Ended end) = actors_after_drivers (host_after_call actors end) (message_of bench 0 end) end
-host_after_step actors bench reach.Limit = record actors { host_calls = drop 1 actors.host_calls; is_taking = false }
+host_after_step actors bench goes_on = actors
 
 -- what a step on the link was
 abbrev pub drive_of_reach : ℕ → Reach → Driven
-drive_of_reach caller (reach.At step) = driven.Stepped
 drive_of_reach caller (reach.Ended end) = driven.Ended caller end
-drive_of_reach caller reach.Limit = driven.Stepped
+drive_of_reach caller goes_on = driven.Stepped
 
 -- the worker, by how far its call came
 abbrev pub worker_after_step : ActorsState → BenchState → Reach → ActorsState
-worker_after_step actors bench (reach.At step) = actors
 worker_after_step actors bench (reach.Ended end) = worker_after_call actors (message_of bench 1 end) end
-worker_after_step actors bench reach.Limit = record actors { worker_calls = drop 1 actors.worker_calls }
+worker_after_step actors bench goes_on = actors
 
 -- the call that a record asks for, if it asks for one
 abbrev pub wishes_of_work : Work → List Wish
@@ -105,10 +96,18 @@ has_calls (Some bench) actors = is_in_call bench 1 || not (is_empty actors.worke
 abbrev pub is_drained : BenchState → ℕ → Bool
 is_drained bench lane = let counts = counts_of bench lane in counts.0 == counts.1
 
--- whether the host actor has nothing to do: it is in no call and has none to make, and no message waits
+-- whether an actor's next call is held up: its caller isn't in use, or doesn't hold what the call gives back
+abbrev pub is_held_up : BenchState → ℕ → List Wish → Bool
+is_held_up bench caller calls = is_some (begin_fault bench caller (first_or_take calls))
+
+-- whether the host actor begins no call: it has none to make and no message waits, or its next is held up
+abbrev pub host_waits : BenchState → ActorsState → Bool
+host_waits bench actors = (is_empty actors.host_calls && is_drained bench 0) || is_held_up bench 0 actors.host_calls
+
+-- whether the host actor has nothing to do: it is in no call, and begins none
 abbrev pub host_is_idle : Option BenchState → ActorsState → Bool
 host_is_idle None actors = true
-host_is_idle (Some bench) actors = not (is_in_call bench 0) && is_empty actors.host_calls && is_drained bench 0
+host_is_idle (Some bench) actors = not (is_in_call bench 0) && host_waits bench actors
 
 -- whether a call is a take
 abbrev pub is_take : Wish → Bool
@@ -123,15 +122,14 @@ abbrev pub begins_with_take : List Wish → Bool
 begins_with_take [] = false
 begins_with_take (first ∷ later) = is_take first
 
--- whether the worker has ended, or its first call is a take of which there is no message
-abbrev pub waits : BenchState → ActorsState → Bool
-waits bench actors = actors.worker.is_halted || (begins_with_take actors.worker_calls && is_drained bench 1)
+-- whether the worker begins no call and runs no record: it has ended, its first call is a take of which there is no message, or its next is held up
+abbrev pub worker_waits : BenchState → ActorsState → Bool
+worker_waits bench actors = actors.worker.is_halted || (begins_with_take actors.worker_calls && is_drained bench 1) || is_held_up bench 1 actors.worker_calls
 
--- whether the worker has nothing to do: it is in no call, and it has ended or waits for a message
+-- whether the worker has nothing to do: it is in no call, and begins none and runs no record
 abbrev pub worker_is_idle : Option BenchState → ActorsState → Bool
 worker_is_idle None actors = actors.worker.is_halted
-worker_is_idle (Some bench) actors =
-    not (is_in_call bench 1) && waits bench actors
+worker_is_idle (Some bench) actors = not (is_in_call bench 1) && worker_waits bench actors
 
 -- the actors where the turn behind this one's step is the other's
 abbrev pub with_next_after : Actor → ActorsState → ActorsState

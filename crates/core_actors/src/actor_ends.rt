@@ -45,13 +45,8 @@ impl Actors {
         requires room { deque_len self.old.host_calls + 2 ≤ deque_capacity self.old.host_calls }
         ensures { actors_view self.new ≡ host_after_step (actors_view self.old) bench.now reach.now }
     {
-        match reach {
-            Reach::At(_) => {}
-            Reach::Ended(end) => self.end_host(bench, end),
-            Reach::Limit => {
-                self.host_calls.pop_front();
-                self.is_taking = false;
-            }
+        if let Reach::Ended(end) = reach {
+            self.end_host(bench, end);
         }
     }
 
@@ -144,12 +139,8 @@ impl Actors {
         requires room { deque_len self.old.worker_calls < deque_capacity self.old.worker_calls }
         ensures { actors_view self.new ≡ worker_after_step (actors_view self.old) bench.now reach.now }
     {
-        match reach {
-            Reach::At(_) => {}
-            Reach::Ended(end) => self.end_worker(message_of(bench, 1, end), end),
-            Reach::Limit => {
-                self.worker_calls.pop_front();
-            }
+        if let Reach::Ended(end) = reach {
+            self.end_worker(message_of(bench, 1, end), end);
         }
     }
 

@@ -1,14 +1,14 @@
 ghost use Rattle.rp_base.specs.declared.limits.TheConstants.{CALLERS_MOST};
-ghost use Rattle.std.specs.Prelude.{◌≡◌, ◌<◌, length, false, is_some, None, IfOk, OnErr, OnOk};
+ghost use Rattle.std.specs.Prelude.{◌≡◌, ◌<◌, length, false, None, Some, IfOk, OnErr, OnOk};
 ghost use Rattle.channel_bus.specs.Sides.{EndState};
 ghost use Rattle.lane_model.specs.Links.{LinkState};
 ghost use Rattle.remote_core.specs.Works.{memory_after, work_of};
 ghost use Rattle.core_actors.specs.Actors.{actors_view};
 ghost use Rattle.core_actors.specs.declared.actors.Actor.TheVariants as actor;
-ghost use Rattle.link_bench.specs.Benches.{HoldsReachTaken, advance_walk, begin_fault, is_in_call, link_in, step_fault};
+ghost use Rattle.link_bench.specs.Benches.{HoldsReachTaken, advance_walk, begin_fault, is_in_call, link_in, start_walk, step_fault};
 ghost use Rattle.link_bench.specs.Watchers.{watcher_after};
 ghost use Rattle.core_actors.specs.ActorEnds.{actors_after_end};
-ghost use Rattle.core_actors.specs.ActorSteps.{HoldsDrivenTaken, actors_after_record, begun_step, drive_of_reach, drive_of_work, first_or_take, host_after_step, host_at_step, is_rest, link_step, with_next_after, worker_after_step};
+ghost use Rattle.core_actors.specs.ActorSteps.{HoldsDrivenTaken, actors_after_record, drive_of_reach, drive_of_work, first_or_take, host_after_step, host_at_step, host_is_idle, is_rest, link_step, with_next_after, worker_after_step, worker_is_idle};
 
 use crate::actors::{Actor, Actors, make_room};
 use crate::progress::Driven;
@@ -26,7 +26,7 @@ const HOST_CALLER: CallerNo = 0;
 const WORKER_CALLER: CallerNo = 1;
 
 /// A step of an actor: a call under way does one step, else the first of these calls, or a take
-/// where there is none, begins and does its first, unless it can't begin. `reach` says how far it came.
+/// where there is none, begins and does its first. `reach` says how far it came.
 #[inline(always)]
 fn link_step(
     bench: &mut Bench,
@@ -37,6 +37,7 @@ fn link_step(
 )
     requires caller { caller < CALLERS_MOST }
     requires calling { goes_on ≡ is_in_call bench.old caller }
+    requires begins { goes_on ≡ false → begin_fault bench.old caller (first_or_take calls.now.items) ≡ None }
     ensures bench { bench.new ≡ (link_step bench.old caller (first_or_take calls.now.items)).bench }
     ensures reach { reach.new ≡ (link_step bench.old caller (first_or_take calls.now.items)).reach }
     ensures taken { HoldsReachTaken (link_in bench.new) caller reach.new }
@@ -51,46 +52,29 @@ fn link_step(
     }
 }
 
-/// Begins a call of a caller in none, and does its first step. One that can't begin does nothing.
+/// Begins a call that a caller may begin, and does its first step.
 #[inline(never)]
 fn begin_step(bench: &mut Bench, caller: CallerNo, wished: &Wish, reach: &mut Reach)
-    requires caller { caller < CALLERS_MOST }
-    requires calling { is_in_call bench.old caller ≡ false }
-    ensures bench { bench.new ≡ (begun_step bench.old caller wished.now).bench }
-    ensures reach { reach.new ≡ (begun_step bench.old caller wished.now).reach }
+    requires begins { begin_fault bench.old caller wished.now ≡ None }
+    ensures bench { bench.new ≡ (start_walk bench.old 0 caller wished.now).bench }
+    ensures reach { reach.new ≡ (start_walk bench.old 0 caller wished.now).reach }
     ensures taken { HoldsReachTaken (link_in bench.new) caller reach.new }
 {
-    if is_refused(bench, caller, wished) {
-        *reach = Reach::Limit;
-        return;
-    }
     bench.start(caller, wished, &mut StepCount::new(), reach);
-}
-
-/// Whether a caller that is in no call can't begin this one.
-fn is_refused(bench: &Bench, caller: CallerNo, wished: &Wish) -> bool
-    requires caller { caller < CALLERS_MOST }
-    requires calling { is_in_call bench.now caller ≡ false }
-    ensures { result ≡ is_some (begin_fault bench.now caller wished.now) }
-{
-    match wished {
-        Wish::Give(number) if !bench.is_holding(caller, *number) => true,
-        _ => bench.end_of(caller).is_none(),
-    }
 }
 
 /// What a step of this caller's call was that came so far.
 fn tell_reach(caller: CallerNo, reach: &Reach, driven: &mut Driven)
     ensures { driven.new ≡ drive_of_reach caller reach.now }
 {
-    match reach {
-        Reach::At(_) | Reach::Limit => *driven = Driven::Stepped,
-        Reach::Ended(end) => *driven = Driven::Ended(caller, *end),
-    }
+    *driven = match reach {
+        Reach::Ended(end) => Driven::Ended(caller, *end),
+        _ => Driven::Stepped,
+    };
 }
 
 impl Actors {
-    /// A step of the host actor on a core's link, where it has something to do. The next turn is the
+    /// A step of the host actor, which has something to do, on a core's link. The next turn is the
     /// worker's. `driven` says what the step was.
     ///
     /// Errors: only for want of memory. The link and the actors are as they were then.
@@ -101,7 +85,8 @@ impl Actors {
         goes_on: bool,
         driven: &mut Driven,
     ) -> Result<(), NoMemory>
-        requires { goes_on ≡ is_in_call bench.old 0 }
+        requires calling { goes_on ≡ is_in_call bench.old 0 }
+        requires busy { host_is_idle (Some bench.old) (actors_view self.old) ≡ false }
         ensures bench { OnOk result (bench.new ≡ (link_step bench.old 0 (first_or_take (actors_view self.old).host_calls)).bench) }
         ensures actors { OnOk result (let walk = link_step bench.old 0 (first_or_take (actors_view self.old).host_calls) in
             actors_view self.new ≡ host_after_step (host_at_step bench.old (with_next_after actor.Host (actors_view self.old))) walk.bench walk.reach) }
@@ -114,14 +99,14 @@ impl Actors {
         make_room(&mut self.host_calls, 2)?;
         self.next = Actor::Worker;
         self.begin_host(goes_on);
-        let mut reach = Reach::Limit;
+        let mut reach = Reach::At(0);
         link_step(bench, HOST_CALLER, goes_on, &self.host_calls, &mut reach);
         self.reach_host(bench, &reach);
         tell_reach(HOST_CALLER, &reach, driven);
         Ok(())
     }
 
-    /// A step of the worker on a core's link, where it makes a call. The next turn is the host actor's.
+    /// A step of the worker, which makes a call, on a core's link. The next turn is the host actor's.
     /// `driven` says what the step was.
     ///
     /// Errors: only for want of memory. The link and the actors are as they were then.
@@ -132,7 +117,8 @@ impl Actors {
         goes_on: bool,
         driven: &mut Driven,
     ) -> Result<(), NoMemory>
-        requires { goes_on ≡ is_in_call bench.old 1 }
+        requires calling { goes_on ≡ is_in_call bench.old 1 }
+        requires busy { worker_is_idle (Some bench.old) (actors_view self.old) ≡ false }
         ensures bench { OnOk result (bench.new ≡ (link_step bench.old 1 (first_or_take (actors_view self.old).worker_calls)).bench) }
         ensures actors { OnOk result (let walk = link_step bench.old 1 (first_or_take (actors_view self.old).worker_calls) in
             actors_view self.new ≡ worker_after_step (with_next_after actor.Worker (actors_view self.old)) walk.bench walk.reach) }
@@ -144,7 +130,7 @@ impl Actors {
     {
         make_room(&mut self.worker_calls, 1)?;
         self.next = Actor::Host;
-        let mut reach = Reach::Limit;
+        let mut reach = Reach::At(0);
         link_step(
             bench,
             WORKER_CALLER,

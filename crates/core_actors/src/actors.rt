@@ -80,13 +80,6 @@ impl Actors {
         self.next
     }
 
-    /// The next turn is this one's.
-    pub fn pass_turn(&mut self, next: Actor)
-        ensures { actors_view self.new ≡ record (actors_view self.old) { next = next } }
-    {
-        self.next = next;
-    }
-
     /// Declares a driver for the channels of a name, behind the others.
     ///
     /// Errors: those of [`Drivers::add`]. The actors are as they were then.

@@ -1,38 +1,44 @@
-ghost use Rattle.std.specs.Prelude.{◌≡◌, ◌<◌, ◌&&◌, not};
+ghost use Rattle.rp_base.specs.declared.limits.TheConstants.{CALLERS_MOST};
+ghost use Rattle.std.specs.Prelude.{◌≡◌, ◌<◌, false, is_some, not};
+ghost use Rattle.link_bench.specs.Benches.{begin_fault, is_in_call};
 ghost use Rattle.core_actors.specs.Actors.{actors_view};
-ghost use Rattle.core_actors.specs.ActorSteps.{begins_with_take, host_is_idle, is_drained, is_empty, waits, worker_is_idle};
+ghost use Rattle.core_actors.specs.ActorSteps.{begins_with_take, host_is_idle, host_waits, is_drained, is_empty, is_held_up, worker_is_idle, worker_waits};
 
 use crate::actors::Actors;
 use lane_model::Wish;
 use link_bench::Bench;
+use rp_base::CallerNo;
 use std::collections::VecDeque;
 
 impl Actors {
-    /// Whether the host actor has nothing to do on the link of its core: it is in no call, has none to
-    /// make, and no message waits for it. Without a link there is no host actor.
+    /// Whether the host actor has nothing to do on the link of its core: it is in no call, and begins
+    /// none, as [`Actors::host_waits`] says. Without a link there is no host actor.
     pub fn is_host_idle(&self, bench: &Option<Bench>) -> bool
         ensures { result ≡ host_is_idle bench.now (actors_view self.now) }
     {
         match bench {
-            Some(bench) => !bench.is_caller_busy(0) && self.rests_between(bench),
+            Some(bench) => !bench.is_caller_busy(0) && self.host_waits(bench),
             None => true,
         }
     }
 
-    /// Whether the host actor, which is in no call, has none to make, and no message waits for it.
+    /// Whether the host actor, which is in no call, begins none: it has none to make and no message
+    /// waits for it, or its next is held up.
     #[inline(always)]
-    pub fn rests_between(&self, bench: &Bench) -> bool
-        ensures { result ≡ (is_empty (actors_view self.now).host_calls && is_drained bench.now 0) }
+    pub fn host_waits(&self, bench: &Bench) -> bool
+        requires { is_in_call bench.now 0 ≡ false }
+        ensures { result ≡ host_waits bench.now (actors_view self.now) }
     {
-        self.host_calls.is_empty() && is_drained(bench, 0)
+        self.host_calls.is_empty() && is_drained(bench, 0) || is_held_up(bench, 0, &self.host_calls)
     }
 
-    /// Whether the worker has nothing to do: it is in no call, and has ended or waits for a message.
+    /// Whether the worker has nothing to do: it is in no call, and begins none and runs no record, as
+    /// [`Actors::worker_waits`] says.
     pub fn is_worker_idle(&self, bench: &Option<Bench>) -> bool
         ensures { result ≡ worker_is_idle bench.now (actors_view self.now) }
     {
         match bench {
-            Some(bench) => !bench.is_caller_busy(1) && self.waits(bench),
+            Some(bench) => !bench.is_caller_busy(1) && self.worker_waits(bench),
             None => self.is_halted(),
         }
     }
@@ -45,12 +51,16 @@ impl Actors {
         self.worker.is_halted()
     }
 
-    /// Whether the worker has ended, or its first call is a take of which there is no message.
+    /// Whether the worker, which is in no call, begins none and runs no record: it has ended, its first
+    /// call is a take of which there is no message, or its next is held up.
     #[inline(always)]
-    pub fn waits(&self, bench: &Bench) -> bool
-        ensures { result ≡ waits bench.now (actors_view self.now) }
+    pub fn worker_waits(&self, bench: &Bench) -> bool
+        requires { is_in_call bench.now 1 ≡ false }
+        ensures { result ≡ worker_waits bench.now (actors_view self.now) }
     {
-        self.worker.is_halted() || begins_with_take(&self.worker_calls) && is_drained(bench, 1)
+        self.worker.is_halted()
+            || begins_with_take(&self.worker_calls) && is_drained(bench, 1)
+            || is_held_up(bench, 1, &self.worker_calls)
     }
 
     /// Whether the worker has a call to make.
@@ -69,6 +79,32 @@ fn begins_with_take(calls: &VecDeque<Wish>) -> bool
     match calls.front() {
         Some(Wish::Take) => true,
         Some(_) | None => false,
+    }
+}
+
+/// Whether the next call of a caller that is in none is held up: the first of these, or a take where
+/// there is none.
+fn is_held_up(bench: &Bench, caller: CallerNo, calls: &VecDeque<Wish>) -> bool
+    requires caller { caller < CALLERS_MOST }
+    requires calling { is_in_call bench.now caller ≡ false }
+    ensures { result ≡ is_held_up bench.now caller calls.now.items }
+{
+    match calls.front() {
+        Some(first) => is_refused(bench, caller, first),
+        None => is_refused(bench, caller, &Wish::Take),
+    }
+}
+
+/// Whether a caller that is in no call can't begin this one: it isn't in use, or doesn't hold what the
+/// call gives back.
+fn is_refused(bench: &Bench, caller: CallerNo, wished: &Wish) -> bool
+    requires caller { caller < CALLERS_MOST }
+    requires calling { is_in_call bench.now caller ≡ false }
+    ensures { result ≡ is_some (begin_fault bench.now caller wished.now) }
+{
+    match wished {
+        Wish::Give(number) if !bench.is_holding(caller, *number) => true,
+        _ => bench.end_of(caller).is_none(),
     }
 }
 

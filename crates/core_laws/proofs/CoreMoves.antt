@@ -11,18 +11,17 @@ use Rattle.lane_model.specs.declared.recoveries.ReopenFault.{ReopenFault}
 use Rattle.lane_model.specs.Links.{end_of}
 use Rattle.lane_model.specs.Recoveries.{link_reopen_refusal, link_reclaim_refusal, without_caller}
 use Rattle.fw_load.specs.declared.rings.RingPair.{RingPair}
-use Rattle.link_bench.specs.declared.benches.BenchFault.{BenchFault}
 use Rattle.link_bench.specs.declared.benches.Reach.TheVariants as reach
 use Rattle.crash_recover.specs.declared.core_faults.CoreFault.{CoreFault}
 use Rattle.crash_recover.specs.declared.core_faults.CoreFault.TheVariants as fault
 use Rattle.link_bench.specs.declared.benches.Reach.{Reach}
-use Rattle.std.proofs.lemmas.List.Elements.{All-append, All-drop}
+use Rattle.std.proofs.lemmas.List.Elements.{All-append}
 use Rattle.rp_base.specs.declared.limits.TheConstants.{MESSAGE_MOST}
 use Rattle.remote_core.specs.Works.{work_of}
 use Rattle.memory_pool.specs.declared.regions.Region.{Region}
 use Rattle.host_driver.specs.Drivers.{Declared}
 use Rattle.core_actors.specs.Actors.{ActorsState, driver_names}
-use Rattle.link_bench.specs.Benches.{BenchState, BenchWalk, IsSendable, LinkRings, advance_walk, begin_fault, is_in_call, link_in, on_rings, start_walk}
+use Rattle.link_bench.specs.Benches.{BenchState, BenchWalk, IsSendable, LinkRings, advance_walk, is_in_call, link_in, on_rings, start_walk}
 use Rattle.link_bench.specs.BenchCrashes.{after_reclaim, after_reopen}
 use Rattle.crash_recover.specs.CoreBoots.{config_of, core_bench, fresh_end, load_in, started_core}
 use Rattle.link_bench.specs.BenchEnds.{crashed_bench, with_fresh_caller, bench_to_reopen, with_new_host_unless, reopen_refusal_of, reopen_refusal_by}
@@ -32,7 +31,7 @@ use Rattle.crash_recover.specs.Cores.{CoreState, LoadState, loaded_rings, new_co
 use Rattle.core_actors.specs.ActorEnds.{actors_after_drivers, actors_at_end, calls_after_end, end_answer, gives_of, host_after_call, message_of, sends_of, taken_number}
 use Rattle.core_actors.specs.ActorSteps.{first_or_take, host_after_step, host_at_step, host_at_step_as, link_step, wishes_of_work, worker_after_step}
 use Rattle.crash_recover.specs.Drives.{drive_step, placed_map}
-use Rattle.core_laws.proofs.DriveWalks.{AreKeptParts, drive_kept, of_link}
+use Rattle.core_laws.proofs.DriveWalks.{AreKeptParts, MayGoOn, drive_kept, of_link}
 use Rattle.core_laws.proofs.Outcomes.{Stays, report_stays}
 use Rattle.proc_state.specs.Lives.{CoreLife}
 use Rattle.core_laws.specs.BenchMoves.{AreSendable, IsReachedBench, IsReachedCore, IsShortLink}
@@ -147,18 +146,11 @@ new_core_reached regions kinds book = record { bench = tt; calls = record { host
 
 -- ---- steps of the actors
 
-no_fault : (found : Option BenchFault) → is_some found ≡ false → found ≡ None
-no_fault None none = refl
-no_fault (Some why) none = absurd (true≢false none)
-
-step_reached : (bench : BenchState) (caller : ℕ) (wanted : Wish) → IsReachedBench bench → IsSendable wanted → IsReachedBench (link_step bench caller wanted).bench
-step_reached bench caller wanted reached sendable =
-    let none : BenchWalk = record { bench = bench; steps = 0; reach = reach.Limit } in
-    cond_both (is_in_call bench caller) (advance_walk bench 0 0 caller)
-    (cond (is_some (begin_fault bench caller wanted)) none (start_walk bench 0 caller wanted)) (λ (walk : BenchWalk). IsReachedBench walk.bench)
-    (λ in_call. advanced bench 0 0 caller reached in_call)
-    (λ _. cond_both (is_some (begin_fault bench caller wanted)) none (start_walk bench 0 caller wanted) (λ (walk : BenchWalk). IsReachedBench walk.bench)
-    (λ _. reached) (λ ready. called bench 0 0 caller wanted reached (no_fault (begin_fault bench caller wanted) ready) sendable))
+step_reached : (bench : BenchState) (caller : ℕ) (calls : List Wish) → MayGoOn bench caller calls → IsReachedBench bench → IsSendable (first_or_take calls)
+    → IsReachedBench (link_step bench caller (first_or_take calls)).bench
+step_reached bench caller calls may reached sendable =
+    cond_both (is_in_call bench caller) (advance_walk bench 0 0 caller) (start_walk bench 0 caller (first_or_take calls)) (λ (walk : BenchWalk). IsReachedBench walk.bench)
+    (λ in_call. advanced bench 0 0 caller reached in_call) (λ none. called bench 0 0 caller (first_or_take calls) reached (may none) sendable)
 
 pub first_sendable : (calls : List Wish) → All IsSendable calls → IsSendable (first_or_take calls)
 first_sendable [] are = tt
@@ -185,7 +177,7 @@ host_sendable : (actors : ActorsState) (bench : BenchState) (came : Reach) → I
 host_sendable actors bench (reach.At step) short are = are
 host_sendable actors bench (reach.Ended end) short are =
     driven_sendable (host_after_call actors end) (message_of bench 0 end) end (message_short bench 0 end short) (host_end_sendable actors end are)
-host_sendable actors bench reach.Limit short are = record { host = All-drop IsSendable 1 actors.host_calls are.host; worker = are.worker }
+host_sendable actors bench reach.Limit short are = are
 
 host_begun_sendable : (in_call : Bool) (actors : ActorsState) → AreSendable actors → AreSendable (host_at_step_as in_call actors)
 host_begun_sendable true actors are = are
@@ -198,22 +190,20 @@ worker_sendable actors bench (reach.Ended end) are = record {
   worker = All-append IsSendable (gives_of (taken_number end)) (calls_after_end end actors.worker_calls) (gives_sendable (taken_number end))
       (left_sendable end actors.worker_calls are.worker);
 }
-worker_sendable actors bench reach.Limit are = record { host = are.host; worker = All-drop IsSendable 1 actors.worker_calls are.worker }
+worker_sendable actors bench reach.Limit are = are
 
 -- what brought its link to where it is stays over each part of a step of the actors
 pub reached_parts : AreKeptParts IsReachedCore
 reached_parts = record {
   turn = λ who core is. record { bench = is.bench; calls = record { host = is.calls.host; worker = is.calls.worker } };
-  host = λ core bench there is.
-      let wanted = first_or_take core.actors.host_calls in
-      let walk = link_step bench 0 wanted in
-      let left = step_reached bench 0 wanted (of_link IsReachedBench core bench there is.bench) (first_sendable core.actors.host_calls is.calls.host) in
+  host = λ core bench there may is.
+      let walk = link_step bench 0 (first_or_take core.actors.host_calls) in
+      let left = step_reached bench 0 core.actors.host_calls may (of_link IsReachedBench core bench there is.bench) (first_sendable core.actors.host_calls is.calls.host) in
       record { bench = left; calls = host_sendable (host_at_step bench core.actors) walk.bench walk.reach left.link.short (host_begun_sendable (is_in_call bench 0) core.actors is.calls) };
-  call = λ core bench there is.
-      let wanted = first_or_take core.actors.worker_calls in
-      let walk = link_step bench 1 wanted in
+  call = λ core bench there may is.
+      let walk = link_step bench 1 (first_or_take core.actors.worker_calls) in
       record {
-        bench = step_reached bench 1 wanted (of_link IsReachedBench core bench there is.bench) (first_sendable core.actors.worker_calls is.calls.worker);
+        bench = step_reached bench 1 core.actors.worker_calls may (of_link IsReachedBench core bench there is.bench) (first_sendable core.actors.worker_calls is.calls.worker);
         calls = worker_sendable core.actors walk.bench walk.reach is.calls;
       };
   run = λ core load there silent is.

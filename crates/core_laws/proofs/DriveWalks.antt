@@ -1,53 +1,69 @@
 -- The one walk of a step of a core's actors: what holds of each part of it holds of the step.
-use Rattle.std.proofs.Common.{◌≡◌, false, Option, Some, None, IfSome, refl, subst}
-use Rattle.std.proofs.lemmas.Bool.{cond_both}
-use Rattle.link_bench.specs.Benches.{BenchState}
+use Rattle.std.proofs.Common.{◌≡◌, ℕ, true, false, List, Option, Some, None, IfSome, is_none, refl, subst}
+use Rattle.std.proofs.lemmas.Bool.{cond_both, false≢true, or_parts, true≢false}
+use Rattle.lane_model.specs.declared.calls.Wish.{Wish}
+use Rattle.link_bench.specs.Benches.{BenchState, begin_fault, is_in_call}
 use Rattle.core_actors.specs.declared.actors.Actor.{Actor}
 use Rattle.core_actors.specs.declared.actors.Actor.TheVariants as actor
 use Rattle.core_actors.specs.declared.progress.Driven.{Driven}
 use Rattle.core_actors.specs.declared.progress.Driven.TheVariants as driven
-use Rattle.core_actors.specs.ActorSteps.{has_calls}
+use Rattle.core_actors.specs.ActorSteps.{first_or_take, has_calls, host_is_idle, worker_is_idle}
+use Rattle.core_actors.proofs.Begins.{host_begins, worker_begins}
 use Rattle.crash_recover.specs.CoreCrashes.{after_report}
 use Rattle.crash_recover.specs.Cores.{CoreState, LoadState}
-use Rattle.crash_recover.specs.Drives.{DriveStep, actor_step, actor_to_step, core_with_report, drive_step, host_step, is_idle, placed_map, record_run, record_step, run_by, with_turn_after, worker_call}
+use Rattle.crash_recover.specs.Drives.{DriveStep, actor_step, actor_to_step, core_with_report, drive_step, host_step, is_idle, is_idle_actor, placed_map, record_run, record_step, run_by, step_with_report, with_turn_after, worker_call}
+use Rattle.crash_recover.proofs.DriveSteps.{acting_busy}
 
 -- what holds of the link that a core has
 pub of_link : (P : BenchState → Type 0) (core : CoreState) (bench : BenchState) → core.bench ≡ Some bench → IfSome core.bench P → P bench
 of_link P core bench there is = subst (λ (found : Option BenchState). IfSome found P) there is
 
+-- a call of an actor is under way, or its next one may begin
+abbrev pub MayGoOn : BenchState → ℕ → List Wish → Type 0
+MayGoOn bench caller calls = is_in_call bench caller ≡ false → begin_fault bench caller (first_or_take calls) ≡ None
+
 -- what holds of a core before a step, and then of each part of the step
 pub record HoldOfParts (Before : CoreState → Type 0) (After : DriveStep → Type 0) : Type 0 where
   pub rest : (core : CoreState) → Before core → After (record { core = core; driven = driven.Idle })
   pub turn : (who : Actor) (core : CoreState) → Before core → Before (with_turn_after who core)
-  pub host : (core : CoreState) (bench : BenchState) → core.bench ≡ Some bench → Before core → After (host_step core (Some bench))
-  pub call : (core : CoreState) (bench : BenchState) → core.bench ≡ Some bench → Before core → After (worker_call core (Some bench))
-  pub work : (core : CoreState) → has_calls core.bench core.actors ≡ false → Before core → After (record_step core)
+  pub host : (core : CoreState) (bench : BenchState) → core.bench ≡ Some bench → MayGoOn bench 0 core.actors.host_calls → Before core → After (host_step core (Some bench))
+  pub call : (core : CoreState) (bench : BenchState) → core.bench ≡ Some bench → MayGoOn bench 1 core.actors.worker_calls → Before core → After (worker_call core (Some bench))
+  pub work : (core : CoreState) (load : LoadState) → core.loaded ≡ Some load → has_calls core.bench core.actors ≡ false → Before core
+      → After (step_with_report (run_by core load (placed_map core.regions load)))
 
 module _ (Before : CoreState → Type 0) (After : DriveStep → Type 0) (parts : HoldOfParts Before After) where
-  host_walk : (core : CoreState) (found : Option BenchState) → core.bench ≡ found → Before core → After (host_step core found)
-  host_walk core None none is = parts.rest core is
-  host_walk core (Some bench) there is = parts.host core bench there is
+  host_walk : (core : CoreState) (found : Option BenchState) → core.bench ≡ found → host_is_idle found core.actors ≡ false → Before core → After (host_step core found)
+  host_walk core None none busy is = absurd (true≢false busy)
+  host_walk core (Some bench) there busy is = parts.host core bench there (host_begins bench core.actors busy) is
 
-  call_walk : (core : CoreState) (found : Option BenchState) → core.bench ≡ found → Before core → After (worker_call core found)
-  call_walk core None none is = parts.rest core is
-  call_walk core (Some bench) there is = parts.call core bench there is
+  call_walk : (core : CoreState) (found : Option BenchState) → core.bench ≡ found → has_calls found core.actors ≡ true → worker_is_idle found core.actors ≡ false → Before core
+      → After (worker_call core found)
+  call_walk core None none has busy is = absurd (false≢true has)
+  call_walk core (Some bench) there has busy is = parts.call core bench there (worker_begins bench core.actors busy) is
 
-  actor_walk : (who : Actor) (core : CoreState) → Before core → After (actor_step who core)
-  actor_walk actor.Host core is = host_walk core core.bench refl is
-  actor_walk actor.Worker core is =
-      cond_both (has_calls core.bench core.actors) (worker_call core core.bench) (record_step core) After (λ _. call_walk core core.bench refl is) (λ none. parts.work core none is)
+  work_walk : (core : CoreState) (found : Option LoadState) → core.loaded ≡ found → is_none found ≡ false → has_calls core.bench core.actors ≡ false → Before core
+      → After (step_with_report (record_run core found))
+  work_walk core None none unloaded silent is = absurd (true≢false unloaded)
+  work_walk core (Some load) there loaded silent is = parts.work core load there silent is
+
+  actor_walk : (who : Actor) (core : CoreState) → is_idle_actor core who ≡ false → Before core → After (actor_step who core)
+  actor_walk actor.Host core busy is = host_walk core core.bench refl busy is
+  actor_walk actor.Worker core busy is =
+      let works = or_parts (is_none core.loaded) (worker_is_idle core.bench core.actors) busy in
+      cond_both (has_calls core.bench core.actors) (worker_call core core.bench) (record_step core) After
+      (λ has. call_walk core core.bench refl has works.1 is) (λ none. work_walk core core.loaded refl works.0 none is)
 
   -- a step of the actors
   pub drive_walk : (core : CoreState) → Before core → After (drive_step core)
   drive_walk core is =
       cond_both (is_idle core) _ _ After (λ _. parts.rest core is)
-      (λ _. actor_walk (actor_to_step core) (with_turn_after (actor_to_step core) core) (parts.turn (actor_to_step core) core is))
+      (λ busy. actor_walk (actor_to_step core) (with_turn_after (actor_to_step core) core) (acting_busy core busy) (parts.turn (actor_to_step core) core is))
 
 -- what a core keeps over each part of a step
 pub record AreKeptParts (P : CoreState → Type 0) : Type 0 where
   pub turn : (who : Actor) (core : CoreState) → P core → P (with_turn_after who core)
-  pub host : (core : CoreState) (bench : BenchState) → core.bench ≡ Some bench → P core → P (host_step core (Some bench)).core
-  pub call : (core : CoreState) (bench : BenchState) → core.bench ≡ Some bench → P core → P (worker_call core (Some bench)).core
+  pub host : (core : CoreState) (bench : BenchState) → core.bench ≡ Some bench → MayGoOn bench 0 core.actors.host_calls → P core → P (host_step core (Some bench)).core
+  pub call : (core : CoreState) (bench : BenchState) → core.bench ≡ Some bench → MayGoOn bench 1 core.actors.worker_calls → P core → P (worker_call core (Some bench)).core
   pub run : (core : CoreState) (load : LoadState) → core.loaded ≡ Some load → has_calls core.bench core.actors ≡ false → P core → P (run_by core load (placed_map core.regions load)).core
   pub report : (core : CoreState) → P core → P (after_report core)
 
@@ -59,10 +75,6 @@ module _ (P : CoreState → Type 0) (parts : AreKeptParts P) where
   report_kept (driven.Worker why closed) core is = parts.report core is
   report_kept (driven.Crashed kind closed) core is = parts.report core is
 
-  run_kept : (core : CoreState) (loaded : Option LoadState) → core.loaded ≡ loaded → has_calls core.bench core.actors ≡ false → P core → P (record_run core loaded).core
-  run_kept core None none silent is = is
-  run_kept core (Some load) there silent is = parts.run core load there silent is
-
   -- a core keeps it over a step of its actors
   pub drive_kept : (core : CoreState) → P core → P (drive_step core).core
   drive_kept core is =
@@ -71,5 +83,6 @@ module _ (P : CoreState → Type 0) (parts : AreKeptParts P) where
         turn = parts.turn;
         host = parts.host;
         call = parts.call;
-        work = λ core silent is. report_kept (record_run core core.loaded).driven (record_run core core.loaded).core (run_kept core core.loaded refl silent is);
+        work = λ core load there silent is.
+            let ran = run_by core load (placed_map core.regions load) in report_kept ran.driven ran.core (parts.run core load there silent is);
       }) core is

@@ -37,8 +37,8 @@ core_reported core is = report_stays IsKeptCore kept_stays true core is
 pub kept_parts : AreKeptParts IsKeptCore
 kept_parts = record {
   turn = λ who core is. is;
-  host = λ core bench there is. step_kept core.life bench 0 (first_or_take core.actors.host_calls) (of_link (IsKeptBench core.life) core bench there is);
-  call = λ core bench there is. step_kept core.life bench 1 (first_or_take core.actors.worker_calls) (of_link (IsKeptBench core.life) core bench there is);
+  host = λ core bench there may is. step_kept core.life bench 0 (first_or_take core.actors.host_calls) (of_link (IsKeptBench core.life) core bench there is);
+  call = λ core bench there may is. step_kept core.life bench 1 (first_or_take core.actors.worker_calls) (of_link (IsKeptBench core.life) core bench there is);
   run = λ core load there silent is. is;
   report = core_reported;
 }

@@ -14,7 +14,6 @@ use Rattle.lane_model.specs.Links.{end_of, lanes_of}
 use Rattle.link_bench.specs.declared.benches.BegunCall.{BegunCall}
 use Rattle.link_bench.specs.declared.benches.BenchFault.{BenchFault}
 use Rattle.link_bench.specs.declared.benches.BenchFault.TheVariants as fault
-use Rattle.link_bench.specs.declared.benches.Reach.TheVariants as reach
 use Rattle.link_bench.specs.Benches.{BenchState, BenchWalk, advance_steps, advance_walk, begin_fault, begun_call_of, bench_walk, caller_fault, calling_fault, is_in_call, later_steps, link_in, on_rings, start_walk, wish_fault}
 use Rattle.core_actors.specs.ActorEnds.{calls_after_end, gives_of, sends_of, taken_number}
 use Rattle.core_actors.specs.ActorSteps.{first_or_take}
@@ -153,12 +152,10 @@ module _ (bench : BenchState) (caller : ℕ) (end : End) (user : end_of (link_in
 
 -- what holds of each way of a step on the link holds of the step
 pub linked : (bench : BenchState) (caller : ℕ) (wanted : Wish) (P : BenchWalk → Type 0) (in_call : Bool) → begun_call_of bench caller ≡ None
-    → (in_call ≡ true → P (bench_walk bench (later_steps on_rings 1 0 0 bench.rings caller)))
-    → (in_call ≡ false → begin_fault bench caller wanted ≡ None) → (in_call ≡ false → P (start_walk bench 0 caller wanted))
-    → P (cond in_call (advance_walk bench 0 0 caller) (cond (is_some (begin_fault bench caller wanted)) (record { bench = bench; steps = 0; reach = reach.Limit }) (start_walk bench 0 caller wanted)))
-linked bench caller wanted P true none later ready first = subst (λ (found : Option BegunCall). P (advance_steps bench 0 0 caller found)) (sym none) (later refl)
-linked bench caller wanted P false none later ready first =
-    subst (λ (why : Option BenchFault). P (cond (is_some why) (record { bench = bench; steps = 0; reach = reach.Limit }) (start_walk bench 0 caller wanted))) (sym (ready refl)) (first refl)
+    → (in_call ≡ true → P (bench_walk bench (later_steps on_rings 1 0 0 bench.rings caller))) → (in_call ≡ false → P (start_walk bench 0 caller wanted))
+    → P (cond in_call (advance_walk bench 0 0 caller) (start_walk bench 0 caller wanted))
+linked bench caller wanted P true none later first = subst (λ (found : Option BegunCall). P (advance_steps bench 0 0 caller found)) (sym none) (later refl)
+linked bench caller wanted P false none later first = first refl
 
 pub next_of_host : (calls : List Wish) → IsNext (first_or_take calls) (not (eqb (length calls) 0)) calls
 next_of_host [] = tt

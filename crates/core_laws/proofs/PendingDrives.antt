@@ -61,47 +61,44 @@ module _ (actors : ActorsState) (bench : BenchState) (reached : IsReachedBench b
 
   -- the lanes of the host actor after its own step, and after the worker's
   host_walk : (in_call : Bool) → is_in_call bench 0 ≡ in_call
-      → let walk : BenchWalk = cond in_call (advance_walk bench 0 0 0) (cond (is_some (begin_fault bench 0 (first_or_take actors.host_calls))) (record { bench = bench; steps = 0; reach = reach.Limit }) (start_walk bench 0 0 (first_or_take actors.host_calls))) in
+      → let walk : BenchWalk = cond in_call (advance_walk bench 0 0 0) (start_walk bench 0 0 (first_or_take actors.host_calls)) in
       ReachFollows walk.reach (lanes_of (link_in walk.bench) side.Host) 0 (not (host_at_step_as in_call actors).is_taking) (host_at_step_as in_call actors).host_calls
   host_walk true is =
       linked bench 0 (first_or_take actors.host_calls) (λ (walk : BenchWalk). ReachFollows walk.reach (lanes_of (link_in walk.bench) side.Host) 0 (not actors.is_taking) actors.host_calls) true begun.host
       (λ _. own_later 0 side.Host (not actors.is_taking) actors.host_calls bench.rings own.host (reached_sound (link_in bench) reached.link) (calling bench 0 side.Host own.host begun.host is) ready.host)
-      (λ no. absurd (true≢false no)) (λ no. absurd (true≢false no))
+      (λ no. absurd (true≢false no))
   host_walk false is =
       linked bench 0 (first_or_take actors.host_calls) (λ (walk : BenchWalk). ReachFollows walk.reach (lanes_of (link_in walk.bench) side.Host) 0 (not (eqb (length actors.host_calls) 0)) actors.host_calls) false begun.host
-      (λ yes. absurd (false≢true yes)) (λ _. host_begins is)
+      (λ yes. absurd (false≢true yes))
       (λ _. own_call 0 side.Host (not (eqb (length actors.host_calls) 0)) actors.host_calls bench.rings own.host (link_in bench).era.inc (first_or_take actors.host_calls)
       (begin_may bench 0 (first_or_take actors.host_calls) (first_sendable actors.host_calls sendable.host) (host_begins is)) (next_of_host actors.host_calls) ready.host.sends
       (given_now bench 0 side.Host own.host (not actors.is_taking) actors.host_calls is ready.host))
 
   worker_stays : (in_call : Bool) → is_in_call bench 0 ≡ in_call
-      → let walk : BenchWalk = cond in_call (advance_walk bench 0 0 0) (cond (is_some (begin_fault bench 0 (first_or_take actors.host_calls))) (record { bench = bench; steps = 0; reach = reach.Limit }) (start_walk bench 0 0 (first_or_take actors.host_calls))) in
+      → let walk : BenchWalk = cond in_call (advance_walk bench 0 0 0) (start_walk bench 0 0 (first_or_take actors.host_calls)) in
       AreFitLanes (lanes_of (link_in walk.bench) side.Remote) 1 true actors.worker_calls
   worker_stays in_call is =
       linked bench 0 (first_or_take actors.host_calls) (λ (walk : BenchWalk). AreFitLanes (lanes_of (link_in walk.bench) side.Remote) 1 true actors.worker_calls) in_call begun.host
       (λ yes. other_later 0 1 side.Remote true actors.worker_calls host_differs 1 0 0 bench.rings (calling bench 0 side.Host own.host begun.host (is ∙ yes)) ready.worker)
-      (λ no. host_begins (is ∙ no))
       (λ no. other_call 0 1 side.Remote true actors.worker_calls host_differs 0 0 bench.rings (link_in bench).era.inc (first_or_take actors.host_calls)
       (begin_may bench 0 (first_or_take actors.host_calls) (first_sendable actors.host_calls sendable.host) (host_begins (is ∙ no))) ready.worker)
 
   worker_walk : (in_call : Bool) → is_in_call bench 1 ≡ in_call
-      → let walk : BenchWalk = cond in_call (advance_walk bench 0 0 1) (cond (is_some (begin_fault bench 1 (first_or_take actors.worker_calls))) (record { bench = bench; steps = 0; reach = reach.Limit }) (start_walk bench 0 1 (first_or_take actors.worker_calls))) in
+      → let walk : BenchWalk = cond in_call (advance_walk bench 0 0 1) (start_walk bench 0 1 (first_or_take actors.worker_calls)) in
       ReachFollows walk.reach (lanes_of (link_in walk.bench) side.Remote) 1 true actors.worker_calls
   worker_walk in_call is =
       linked bench 1 (first_or_take actors.worker_calls) (λ (walk : BenchWalk). ReachFollows walk.reach (lanes_of (link_in walk.bench) side.Remote) 1 true actors.worker_calls) in_call begun.worker
       (λ yes. own_later 1 side.Remote true actors.worker_calls bench.rings own.remote (reached_sound (link_in bench) reached.link) (calling bench 1 side.Remote own.remote begun.worker (is ∙ yes)) ready.worker)
-      (λ no. worker_begins (is ∙ no))
       (λ no. own_call 1 side.Remote true actors.worker_calls bench.rings own.remote (link_in bench).era.inc (first_or_take actors.worker_calls)
       (begin_may bench 1 (first_or_take actors.worker_calls) (first_sendable actors.worker_calls sendable.worker) (worker_begins (is ∙ no))) (next_of_worker actors.worker_calls) ready.worker.sends
       (given_now bench 1 side.Remote own.remote true actors.worker_calls (is ∙ no) ready.worker))
 
   host_stays : (in_call : Bool) → is_in_call bench 1 ≡ in_call
-      → let walk : BenchWalk = cond in_call (advance_walk bench 0 0 1) (cond (is_some (begin_fault bench 1 (first_or_take actors.worker_calls))) (record { bench = bench; steps = 0; reach = reach.Limit }) (start_walk bench 0 1 (first_or_take actors.worker_calls))) in
+      → let walk : BenchWalk = cond in_call (advance_walk bench 0 0 1) (start_walk bench 0 1 (first_or_take actors.worker_calls)) in
       AreFitLanes (lanes_of (link_in walk.bench) side.Host) 0 (not actors.is_taking) actors.host_calls
   host_stays in_call is =
       linked bench 1 (first_or_take actors.worker_calls) (λ (walk : BenchWalk). AreFitLanes (lanes_of (link_in walk.bench) side.Host) 0 (not actors.is_taking) actors.host_calls) in_call begun.worker
       (λ yes. other_later 1 0 side.Host (not actors.is_taking) actors.host_calls worker_differs 1 0 0 bench.rings (calling bench 1 side.Remote own.remote begun.worker (is ∙ yes)) ready.host)
-      (λ no. worker_begins (is ∙ no))
       (λ no. other_call 1 0 side.Host (not actors.is_taking) actors.host_calls worker_differs 0 0 bench.rings (link_in bench).era.inc (first_or_take actors.worker_calls)
       (begin_may bench 1 (first_or_take actors.worker_calls) (first_sendable actors.worker_calls sendable.worker) (worker_begins (is ∙ no))) ready.host)
 
@@ -158,12 +155,9 @@ host_same reach.Limit actors bench are = are
 
 link_begun : (bench : BenchState) (caller : ℕ) (wanted : Wish) → begun_call_of bench caller ≡ None → HasNoneBegun bench → HasNoneBegun (link_step bench caller wanted).bench
 link_begun bench caller wanted none is =
-    let refused : BenchWalk = record { bench = bench; steps = 0; reach = reach.Limit } in
-    cond_both (is_in_call bench caller) (advance_walk bench 0 0 caller) (cond (is_some (begin_fault bench caller wanted)) refused (start_walk bench 0 caller wanted))
-    (λ (walk : BenchWalk). HasNoneBegun walk.bench)
+    cond_both (is_in_call bench caller) (advance_walk bench 0 0 caller) (start_walk bench 0 caller wanted) (λ (walk : BenchWalk). HasNoneBegun walk.bench)
     (λ _. subst (λ (found : Option BegunCall). HasNoneBegun (advance_steps bench 0 0 caller found).bench) (sym none) (record { host = is.host; worker = is.worker }))
-    (λ _. cond_both (is_some (begin_fault bench caller wanted)) refused (start_walk bench 0 caller wanted) (λ (walk : BenchWalk). HasNoneBegun walk.bench)
-    (λ _. is) (λ _. record { host = is.host; worker = is.worker }))
+    (λ _. record { host = is.host; worker = is.worker })
 
 host_ready : (core : CoreState) (bench : BenchState) → AreSendable core.actors → IsReachedBench bench → IsKeptBench core.life bench → HasNoneBegun bench
     → (is_up core.life.state ≡ true → IsReadyBench core.actors bench) → IsReadyCore (host_step core (Some bench)).core
@@ -293,15 +287,15 @@ ready_parts = record {
       calls = λ running. map_ready core.actors (with_turn_after who core).actors core.bench (λ bench one. record { host = one.host; worker = one.worker }) (is.ready.calls running);
     };
   };
-  host = λ core bench there is. record {
-    reached = reached_parts.host core bench there is.reached;
-    kept = kept_parts.host core bench there is.kept;
+  host = λ core bench there may is. record {
+    reached = reached_parts.host core bench there may is.reached;
+    kept = kept_parts.host core bench there may is.kept;
     ready = host_ready core bench is.reached.calls (of_link IsReachedBench core bench there is.reached.bench) (of_link (IsKeptBench core.life) core bench there is.kept)
         (of_link HasNoneBegun core bench there is.ready.begun) (λ running. of_link (IsReadyBench core.actors) core bench there (is.ready.calls running));
   };
-  call = λ core bench there is. record {
-    reached = reached_parts.call core bench there is.reached;
-    kept = kept_parts.call core bench there is.kept;
+  call = λ core bench there may is. record {
+    reached = reached_parts.call core bench there may is.reached;
+    kept = kept_parts.call core bench there may is.kept;
     ready = worker_ready core bench is.reached.calls (of_link IsReachedBench core bench there is.reached.bench) (of_link (IsKeptBench core.life) core bench there is.kept)
         (of_link HasNoneBegun core bench there is.ready.begun) (λ running. of_link (IsReadyBench core.actors) core bench there (is.ready.calls running));
   };

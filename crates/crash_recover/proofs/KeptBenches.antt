@@ -13,9 +13,8 @@ use Rattle.lane_model.specs.declared.recoveries.ReclaimRefusal.{ReclaimRefusal}
 use Rattle.lane_model.specs.Links.{end_of, free_number}
 use Rattle.lane_model.specs.Recoveries.{link_reclaim_refusal}
 use Rattle.lane_model.proofs.Others.{stays_in_use}
-use Rattle.link_bench.specs.declared.benches.Reach.TheVariants as reach
 use Rattle.link_bench.specs.BenchCrashes.{after_reopen, reclaim_leaves, reclaim_leaves_at}
-use Rattle.link_bench.specs.Benches.{BenchState, BenchWalk, advance_walk, begin_fault, is_in_call, link_in, start_walk, with_new_caller}
+use Rattle.link_bench.specs.Benches.{BenchState, BenchWalk, advance_walk, is_in_call, link_in, start_walk, with_new_caller}
 use Rattle.crash_recover.specs.CoreBoots.{core_bench}
 use Rattle.link_bench.specs.BenchEnds.{bench_to_reopen, with_new_host_unless}
 use Rattle.crash_recover.specs.CoreRecoveries.{after_recovery, core_to_reopen, recovery_fault, recovery_fault_to, reopen_fault, reopened_core, next_life, with_next_life}
@@ -139,12 +138,8 @@ core_recovered core given is may opens =
 -- a step of an actor
 pub step_kept : (life : CoreLife) (bench : BenchState) (caller : ℕ) (wanted : Wish) → IsKeptBench life bench → IsKeptBench life (link_step bench caller wanted).bench
 step_kept life bench caller wanted is =
-    let none : BenchWalk = record { bench = bench; steps = 0; reach = reach.Limit } in
-    cond_both (is_in_call bench caller) (advance_walk bench 0 0 caller)
-    (cond (is_some (begin_fault bench caller wanted)) none (start_walk bench 0 caller wanted)) (λ (walk : BenchWalk). IsKeptBench life walk.bench)
-    (λ _. advance_kept life bench 0 0 caller is)
-    (λ _. cond_both (is_some (begin_fault bench caller wanted)) none (start_walk bench 0 caller wanted) (λ (walk : BenchWalk). IsKeptBench life walk.bench)
-    (λ _. is) (λ _. start_kept life bench 0 caller wanted is))
+    cond_both (is_in_call bench caller) (advance_walk bench 0 0 caller) (start_walk bench 0 caller wanted) (λ (walk : BenchWalk). IsKeptBench life walk.bench)
+    (λ _. advance_kept life bench 0 0 caller is) (λ _. start_kept life bench 0 caller wanted is)
 
 -- nothing is asked of what a call wishes
 abbrev AnyWish : Wish → Type 0

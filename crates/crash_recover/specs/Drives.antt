@@ -1,5 +1,5 @@
 -- What a drive of a core does, step by step: whose turn it is, and what the step leaves of the core (own).
-use Rattle.std.specs.Prelude.{ℕ, Bool, true, ◌&&◌, List, Option, Some, None, is_some, Result, Ok, Err, if◌then◌else◌}
+use Rattle.std.specs.Prelude.{ℕ, Bool, true, ◌&&◌, ◌||◌, List, Option, Some, None, is_none, is_some, Result, Ok, Err, if◌then◌else◌}
 use Rattle.proc_state.specs.declared.answers.LifeFault.{LifeFault}
 use Rattle.memory_pool.specs.Regions.{memory_len}
 use Rattle.memory_pool.specs.declared.regions.Region.{Region}
@@ -88,9 +88,9 @@ run_by core load map = record {
   driven = drive_of_work (work_of load.memory map (is_some core.bench) core.actors.worker);
 }
 
--- a record that the worker runs of a core that is loaded. A worker without memory asks for nothing; no running core is that
+-- the same by the map of what was placed; without memory there is no worker
 abbrev pub record_run : CoreState → Option LoadState → DriveStep
-record_run core None = record { core = core; driven = driven.Stepped }
+record_run core None = record { core = core; driven = driven.Idle }
 record_run core (Some load) = run_by core load (placed_map core.regions load)
 
 -- the same, with a crash reported
@@ -116,13 +116,14 @@ actor_step actor.Worker core = worker_step core
 
 -- ---- whose turn
 
+-- whether an actor has nothing to do; the worker of a core without memory has not
 abbrev pub is_idle_actor : CoreState → Actor → Bool
 is_idle_actor core actor.Host = host_is_idle core.bench core.actors
-is_idle_actor core actor.Worker = worker_is_idle core.bench core.actors
+is_idle_actor core actor.Worker = is_none core.loaded || worker_is_idle core.bench core.actors
 
 -- whether both actors have nothing to do
 abbrev pub is_idle : CoreState → Bool
-is_idle core = host_is_idle core.bench core.actors && worker_is_idle core.bench core.actors
+is_idle core = is_idle_actor core actor.Host && is_idle_actor core actor.Worker
 
 -- the actor that makes the next step: the one whose turn it is, or the other where that is idle
 abbrev pub actor_to_step : CoreState → Actor

@@ -1,11 +1,11 @@
-ghost use Rattle.std.specs.Prelude.{◌≡◌, false, true, OnErr, OnOk, IfOk, IfSome};
+ghost use Rattle.std.specs.Prelude.{◌≡◌, false, true, is_some, OnErr, OnOk, IfOk, IfSome};
 ghost use Rattle.channel_bus.specs.Sides.{EndState};
 ghost use Rattle.lane_model.specs.Links.{LinkState};
 ghost use Rattle.core_actors.specs.declared.actors.Actor.TheVariants as actor;
-ghost use Rattle.core_actors.specs.ActorSteps.{HoldsDrivenTaken, host_is_idle, is_rest, worker_is_idle};
+ghost use Rattle.core_actors.specs.ActorSteps.{HoldsDrivenTaken, is_rest};
 ghost use Rattle.link_bench.specs.Benches.{link_in};
 ghost use Rattle.crash_recover.specs.CoreCrashes.{after_report, report_of};
-ghost use Rattle.crash_recover.specs.Drives.{closed_by, core_with_report, drive_step, driven_with_report, is_idle, record_run, record_step, step_or_rest, with_turn_after};
+ghost use Rattle.crash_recover.specs.Drives.{closed_by, core_with_report, drive_step, driven_with_report, is_idle, is_idle_actor, record_run, record_step, step_or_rest, with_turn_after};
 
 use crate::core_answers::Crash;
 use crate::cores::Core;
@@ -16,11 +16,13 @@ use std::alloc::Global;
 impl Core {
     /// Whether neither actor of the core has anything to do: the host actor is in no call, has none to
     /// make, and no message waits for it; the worker is in no call, and has ended or waits for a
-    /// message. Without a link there is only the worker.
+    /// message; or its next call is held up. Without a link there is only the worker, and without
+    /// memory none.
     pub fn is_idle(&self) -> bool
         ensures { result ≡ is_idle self.now }
     {
-        self.actors.is_host_idle(&self.bench) && self.actors.is_worker_idle(&self.bench)
+        self.actors.is_host_idle(&self.bench)
+            && (self.loaded.is_none() || self.actors.is_worker_idle(&self.bench))
     }
 
     /// One step of the actors of a core that is running. The one whose turn is next makes it, unless
@@ -72,7 +74,7 @@ impl Core {
     /// A step of the host actor, unless it has nothing to do. The next turn is the worker's then.
     #[inline(always)]
     fn host_step(&mut self, driven: &mut Driven) -> Result<(), NoMemory>
-        ensures rests { OnOk result (is_rest driven.new ≡ host_is_idle self.old.bench self.old.actors) }
+        ensures rests { OnOk result (is_rest driven.new ≡ is_idle_actor self.old actor.Host) }
         ensures driven { OnOk result (driven.new ≡ (step_or_rest actor.Host self.old).driven) }
         ensures taken { OnOk result (IfSome self.new.bench (λ bench. HoldsDrivenTaken (link_in bench) driven.new)) }
         ensures left { OnOk result (self.new ≡ (step_or_rest actor.Host self.old).core) }
@@ -83,7 +85,7 @@ impl Core {
             return Ok(());
         };
         let goes_on = bench.is_caller_busy(0);
-        if !goes_on && self.actors.rests_between(bench) {
+        if !goes_on && self.actors.host_waits(bench) {
             *driven = Driven::Idle;
             return Ok(());
         }
@@ -93,12 +95,16 @@ impl Core {
     /// A step of the worker, unless it has nothing to do. The next turn is the host actor's then.
     #[inline(always)]
     fn worker_step(&mut self, driven: &mut Driven) -> Result<(), NoMemory>
-        ensures rests { OnOk result (is_rest driven.new ≡ worker_is_idle self.old.bench self.old.actors) }
+        ensures rests { OnOk result (is_rest driven.new ≡ is_idle_actor self.old actor.Worker) }
         ensures driven { OnOk result (driven.new ≡ (step_or_rest actor.Worker self.old).driven) }
         ensures taken { OnOk result (IfSome self.new.bench (λ bench. HoldsDrivenTaken (link_in bench) driven.new)) }
         ensures left { OnOk result (self.new ≡ (step_or_rest actor.Worker self.old).core) }
         ensures unchanged { OnErr result (self.new ≡ self.old) }
     {
+        if self.loaded.is_none() {
+            *driven = Driven::Idle;
+            return Ok(());
+        }
         let Some(bench) = &mut self.bench else {
             if self.actors.is_halted() {
                 *driven = Driven::Idle;
@@ -108,7 +114,7 @@ impl Core {
         };
         let goes_on = bench.is_caller_busy(1);
         if !goes_on {
-            if self.actors.waits(bench) {
+            if self.actors.worker_waits(bench) {
                 *driven = Driven::Idle;
                 return Ok(());
             }
@@ -119,9 +125,10 @@ impl Core {
         self.actors.worker_step(bench, goes_on, driven)
     }
 
-    /// The worker runs one record. A crash is reported.
+    /// The worker of a core that is loaded runs one record. A crash is reported.
     #[inline(always)]
     fn record_step(&mut self, driven: &mut Driven) -> Result<(), NoMemory>
+        requires { is_some self.old.loaded ≡ true }
         ensures works { OnOk result (is_rest driven.new ≡ false) }
         ensures driven { OnOk result (driven.new ≡ (record_step (with_turn_after actor.Worker self.old)).driven) }
         ensures taken { OnOk result ((link : LinkState EndState) → HoldsDrivenTaken link driven.new) }
@@ -133,9 +140,10 @@ impl Core {
         Ok(())
     }
 
-    /// The worker runs one record. A crash is not reported yet.
+    /// The worker of a core that is loaded runs one record. A crash is not reported yet.
     #[inline(always)]
     fn run_record(&mut self, driven: &mut Driven) -> Result<(), NoMemory>
+        requires { is_some self.old.loaded ≡ true }
         ensures works { OnOk result (is_rest driven.new ≡ false) }
         ensures driven { OnOk result (driven.new ≡ (record_run (with_turn_after actor.Worker self.old) self.old.loaded).driven) }
         ensures taken { OnOk result ((link : LinkState EndState) → HoldsDrivenTaken link driven.new) }
@@ -145,9 +153,7 @@ impl Core {
         let _ = self.regions.as_slice();
         let linked = self.bench.is_some();
         let Some(loaded) = &mut self.loaded else {
-            self.actors.pass_turn(Actor::Host);
-            *driven = Driven::Stepped;
-            return Ok(());
+            unreachable!();
         };
         self.actors.run_record(loaded, linked, driven)?;
         Ok(())

@@ -1,5 +1,5 @@
 -- A step of the actors of a core that runs leaves fewer, or the core has crashed.
-use Rattle.std.proofs.Common.{◌≡◌, ◌⊎◌, inl, inr, ◌<◌, ◌≤◌, ℕ, suc, ◌+◌, ◌-◌, ◌*◌, cond, Bool, true, false, not, ◌&&◌, ◌||◌, List, [], ◌∷◌, ◌++◌, length, Option, Some, None, IfSome, is_some, refl, sym, ap, ap₂, subst, ◌∙◌, arith}
+use Rattle.std.proofs.Common.{◌≡◌, ◌⊎◌, inl, inr, ◌<◌, ◌≤◌, ℕ, suc, ◌+◌, ◌-◌, ◌*◌, cond, Bool, true, false, not, ◌&&◌, ◌||◌, List, [], ◌∷◌, ◌++◌, length, Option, Some, None, IfSome, is_none, is_some, refl, sym, ap, ap₂, subst, ◌∙◌, arith}
 use Rattle.std.specs.Option.{option_map_or}
 use Rattle.std.proofs.lemmas.Bool.{cond_both, eq-eqb, eqb-false, false≢true, ne_eqb, or_parts, true≢false}
 use Rattle.rp_base.specs.declared.kinds.End.{End}
@@ -30,20 +30,21 @@ use Rattle.link_bench.specs.declared.benches.BegunCall.{BegunCall}
 use Rattle.link_bench.specs.declared.benches.Reach.TheVariants as reach
 use Rattle.core_actors.specs.Actors.{ActorsState}
 use Rattle.core_laws.specs.BenchMoves.{IsReachedBench, IsReachedCore}
-use Rattle.link_bench.specs.Benches.{BenchState, BenchWalk, LinkRings, Walk, advance_walk, begin_fault, begun_call_of, bench_walk, call_steps, is_in_call, later_steps, link_in, on_lists, start_walk}
+use Rattle.link_bench.specs.Benches.{BenchState, BenchWalk, LinkRings, Walk, advance_walk, begun_call_of, bench_walk, call_steps, is_in_call, later_steps, link_in, on_lists, start_walk}
 use Rattle.link_bench.proofs.Lists.{call_lists, later_lists}
 use Rattle.crash_recover.specs.Cores.{CoreState, LoadState, IsKeptCore}
 use Rattle.core_actors.specs.ActorEnds.{message_of, taken_number, worker_after_end}
-use Rattle.core_actors.specs.ActorSteps.{first_or_take, host_at_step_as, host_is_idle, host_after_step, is_drained, is_empty, worker_after_step, begins_with_take}
+use Rattle.core_actors.specs.ActorSteps.{first_or_take, host_at_step_as, host_is_idle, host_after_step, is_drained, is_empty, is_held_up, worker_after_step, begins_with_take}
 use Rattle.crash_recover.specs.Drives.{host_step, placed_map, DriveStep, actor_step, actor_to_step, core_with_report, drive_step, is_idle, is_idle_actor, record_run, record_step, step_with_report, with_turn_after, worker_call, worker_step}
 use Rattle.crash_recover.specs.KeptCores.{AreOwnUsed, IsKeptBench}
+use Rattle.crash_recover.proofs.DriveSteps.{acting_busy}
 use Rattle.core_laws.specs.PendingCalls.{HasNoneBegun, IsReadyBench, IsReadyCore}
 use Rattle.demo_laws.proofs.ActorBounds.{HasMessageNow, HostLeft, LinkWithin, WorkerLeft, host_first_step, host_later, more_link, paid, worker_asks, worker_first_step, worker_later}
 use Rattle.demo_laws.proofs.CallCosts.{AreWorkerCalls, WorkerFits, call_cost, calls_cost, gives_in, one_give, one_send, one_take, sends_in, takes_in, worker_after}
 use Rattle.demo_laws.proofs.ActorCalls.{IsNoUnbind, TurnsOf}
 use Rattle.core_laws.proofs.CrashReclaims.{reached_sound}
 use Rattle.demo_laws.proofs.OwnCalls.{IsFree, IsOwnSend, IsOwnWork}
-use Rattle.core_laws.proofs.PendingCores.{linked, begins}
+use Rattle.core_laws.proofs.PendingCores.{linked}
 use Rattle.core_laws.proofs.PendingSteps.{one_call, one_later, reach_by}
 use Rattle.std.proofs.Common.{◌≢◌, ⊎_elim}
 use Rattle.std.proofs.lemmas.Bool.{cases_lt}
@@ -170,20 +171,16 @@ halts true halted waits busy silent = absurd (true≢false silent)
 halts false true waits busy silent = absurd (true≢false busy)
 halts false false waits busy silent = refl
 
-worker_waits : (in_call halted takes drained : Bool) → (not in_call && (halted || (takes && drained))) ≡ false → in_call ≡ false → takes ≡ true → drained ≡ false
-worker_waits true halted takes drained busy silent taking = absurd (true≢false silent)
-worker_waits false true takes drained busy silent taking = absurd (true≢false busy)
-worker_waits false false false drained busy silent taking = absurd (false≢true taking)
-worker_waits false false true true busy silent taking = absurd (true≢false busy)
-worker_waits false false true false busy silent taking = refl
+message_comes : (in_call halted takes drained held : Bool) → (not in_call && (halted || (takes && drained) || held)) ≡ false → in_call ≡ false → takes ≡ true → drained ≡ false
+message_comes true halted takes drained held busy silent taking = absurd (true≢false silent)
+message_comes false true takes drained held busy silent taking = absurd (true≢false busy)
+message_comes false false false drained held busy silent taking = absurd (false≢true taking)
+message_comes false false true true held busy silent taking = absurd (true≢false busy)
+message_comes false false true false held busy silent taking = refl
 
 no_calls : (calls : List Wish) → not (is_empty calls) ≡ false → calls ≡ []
 no_calls [] none = refl
 no_calls (first ∷ later) none = absurd (true≢false (sym (ap not (ne_eqb (suc (length later)) 0 (λ is. absurd (omega (arith, is))))) ∙ none))
-
-and_first : (one other : Bool) → (one && other) ≡ false → other ≡ true → one ≡ false
-and_first false other none is = refl
-and_first true other none is = absurd (true≢false (sym is ∙ none))
 
 -- ---- the program of a worker
 
@@ -228,20 +225,19 @@ module _ (Fits : WorkerState → Type 0) (records credit : WorkerState → ℕ) 
     host_call : is_in_call bench 0 ≡ is_some is.host_now
     host_call = in_call_on bench 0 side.Host begun.host own.host ∙ turns_call 0 (link_in bench).era.inc is.host_now (link_in bench).to_remote.sender (link_in bench).to_host.receiver is.host.turns
 
-    host_walk : (in_call : Bool) → is_in_call bench 0 ≡ in_call → (now : Option Wish) → is.host_now ≡ now → (in_call ≡ false → begin_fault bench 0 (first_or_take actors.host_calls) ≡ None)
+    host_walk : (in_call : Bool) → is_in_call bench 0 ≡ in_call → (now : Option Wish) → is.host_now ≡ now
         → (actors.host_calls ≡ [] → in_call ≡ false → is.host_took < length (link_in bench).to_host.lane.accepted)
-        → HostStays in_call (cond in_call (advance_walk bench 0 0 0) (cond (is_some (begin_fault bench 0 (first_or_take actors.host_calls))) (record { bench = bench; steps = 0; reach = reach.Limit })
-        (start_walk bench 0 0 (first_or_take actors.host_calls))))
-    host_walk true calls (Some wanted) now clear waits =
+        → HostStays in_call (cond in_call (advance_walk bench 0 0 0) (start_walk bench 0 0 (first_or_take actors.host_calls)))
+    host_walk true calls (Some wanted) now waits =
         linked bench 0 (first_or_take actors.host_calls) (HostStays true) true begun.host
         (λ _. subst (λ (walk : Walk (LaneState EndState)). HostStays true (walk_over bench walk)) (sym (later_lists 1 0 0 bench.rings 0 ∙ later_is (link_in bench) 0 side.Host own.host))
         (host_after_later _ _
         (host_later (records actors.worker) (credit actors.worker) actors.host_calls actors.is_taking actors.worker_calls (link_in bench) within (reached_sound (link_in bench) reached.link) live is wanted now)))
         (λ no. absurd (true≢false no)) (λ no. absurd (true≢false no))
-    host_walk true calls None now clear waits = absurd (true≢false (sym calls ∙ host_call ∙ ap is_some now))
-    host_walk false calls (Some wanted) now clear waits = absurd (false≢true (sym calls ∙ host_call ∙ ap is_some now))
-    host_walk false calls None now clear waits =
-        linked bench 0 (first_or_take actors.host_calls) (HostStays false) false begun.host (λ yes. absurd (false≢true yes)) clear
+    host_walk true calls None now waits = absurd (true≢false (sym calls ∙ host_call ∙ ap is_some now))
+    host_walk false calls (Some wanted) now waits = absurd (false≢true (sym calls ∙ host_call ∙ ap is_some now))
+    host_walk false calls None now waits =
+        linked bench 0 (first_or_take actors.host_calls) (HostStays false) false begun.host (λ yes. absurd (false≢true yes))
         (λ _. subst (λ (walk : Walk (LaneState EndState)). HostStays false (walk_over bench walk))
         (sym (call_lists 0 0 bench.rings 0 (link_in bench).era.inc (first_or_take actors.host_calls) ∙ call_is (link_in bench) 0 (link_in bench).era.inc (first_or_take actors.host_calls) side.Host own.host)) first)
       where
@@ -282,21 +278,20 @@ module _ (Fits : WorkerState → Type 0) (records credit : WorkerState → ℕ) 
       worker_in_call : is_in_call bench 1 ≡ is_some is.worker_now
       worker_in_call = in_call_on bench 1 side.Remote begun.worker own.remote ∙ turns_call 1 (link_in bench).era.inc is.worker_now (link_in bench).to_host.sender (link_in bench).to_remote.receiver is.worker.turns
 
-      worker_walk : (in_call : Bool) → is_in_call bench 1 ≡ in_call → (now : Option Wish) → is.worker_now ≡ now → (in_call ≡ false → begin_fault bench 1 (first_or_take actors.worker_calls) ≡ None)
+      worker_walk : (in_call : Bool) → is_in_call bench 1 ≡ in_call → (now : Option Wish) → is.worker_now ≡ now
           → (in_call ≡ false → is_empty actors.worker_calls ≡ false)
           → (in_call ≡ false → begins_with_take actors.worker_calls ≡ true → is.worker_took < length (link_in bench).to_remote.lane.accepted)
-          → WorkerStays (cond in_call (advance_walk bench 0 0 1) (cond (is_some (begin_fault bench 1 (first_or_take actors.worker_calls))) (record { bench = bench; steps = 0; reach = reach.Limit })
-          (start_walk bench 0 1 (first_or_take actors.worker_calls))))
-      worker_walk true calls (Some wanted) now clear some waits =
+          → WorkerStays (cond in_call (advance_walk bench 0 0 1) (start_walk bench 0 1 (first_or_take actors.worker_calls)))
+      worker_walk true calls (Some wanted) now some waits =
           linked bench 1 (first_or_take actors.worker_calls) WorkerStays true begun.worker
           (λ _. subst (λ (walk : Walk (LaneState EndState)). WorkerStays (walk_over bench walk)) (sym (later_lists 1 0 0 bench.rings 1 ∙ later_is (link_in bench) 1 side.Remote own.remote))
           (worker_after_later _ _
           (worker_later (records actors.worker) (credit actors.worker) actors.host_calls actors.is_taking actors.worker_calls (link_in bench) within (reached_sound (link_in bench) reached.link) live is wanted now)))
           (λ no. absurd (true≢false no)) (λ no. absurd (true≢false no))
-      worker_walk true calls None now clear some waits = absurd (true≢false (sym calls ∙ worker_in_call ∙ ap is_some now))
-      worker_walk false calls (Some wanted) now clear some waits = absurd (false≢true (sym calls ∙ worker_in_call ∙ ap is_some now))
-      worker_walk false calls None now clear some waits =
-          linked bench 1 (first_or_take actors.worker_calls) WorkerStays false begun.worker (λ yes. absurd (false≢true yes)) clear
+      worker_walk true calls None now some waits = absurd (true≢false (sym calls ∙ worker_in_call ∙ ap is_some now))
+      worker_walk false calls (Some wanted) now some waits = absurd (false≢true (sym calls ∙ worker_in_call ∙ ap is_some now))
+      worker_walk false calls None now some waits =
+          linked bench 1 (first_or_take actors.worker_calls) WorkerStays false begun.worker (λ yes. absurd (false≢true yes))
           (λ _. subst (λ (walk : Walk (LaneState EndState)). WorkerStays (walk_over bench walk))
           (sym (call_lists 0 0 bench.rings 1 (link_in bench).era.inc (first_or_take actors.worker_calls) ∙ call_is (link_in bench) 1 (link_in bench).era.inc (first_or_take actors.worker_calls) side.Remote own.remote)) first)
         where
@@ -329,9 +324,9 @@ module _ (Fits : WorkerState → Type 0) (records credit : WorkerState → ℕ) 
 
   module _ (core : CoreState) (within : ℕ) (load : LoadState) (loaded : core.loaded ≡ Some load) (program : IsProgram load.memory (placed_map core.regions load)) (fits : Fits core.actors.worker)
       (running : core.life.state ≡ Running) where
-    host_waits : (in_call drained : Bool) (calls : List Wish) → (not in_call && is_empty calls && drained) ≡ false → calls ≡ [] → in_call ≡ false → drained ≡ false
-    host_waits in_call false calls busy none silent = refl
-    host_waits in_call true calls busy none silent = absurd (true≢false (sym (ap₂ (λ (a : Bool) (c : List Wish). not a && is_empty c && true) silent none) ∙ busy))
+    message_waits : (in_call drained held : Bool) (calls : List Wish) → (not in_call && ((is_empty calls && drained) || held)) ≡ false → calls ≡ [] → in_call ≡ false → drained ≡ false
+    message_waits in_call false held calls busy none silent = refl
+    message_waits in_call true held calls busy none silent = absurd (true≢false (sym (ap₂ (λ (a : Bool) (c : List Wish). not a && ((is_empty c && true) || held)) silent none) ∙ busy))
 
     host_came : (found : Option BenchState) → host_is_idle found core.actors ≡ false → IfSome found IsReachedBench → IfSome found (IsKeptBench core.life) → IfSome found HasNoneBegun
         → IfSome found (IsReadyBench core.actors) → OnLink core.actors found within → Came core within (host_step core found).core
@@ -341,9 +336,8 @@ module _ (Fits : WorkerState → Type 0) (records credit : WorkerState → ℕ) 
         let sound = reached_sound (link_in bench) reached.link in
         let free = free_takes 0 (link_in bench).era.inc on.host_now (link_in bench).to_remote.sender (link_in bench).to_host.receiver on.host.turns in
         let left = host_walk core.actors bench within reached live kept.own begun on (is_in_call bench 0) refl on.host_now refl
-        (λ silent. begins bench 0 side.Host kept.own.host (not core.actors.is_taking) core.actors.host_calls silent ready.host)
         (λ none silent.
-        let differ = eqb-false (length (link_in bench).to_host.lane.accepted) (length (link_in bench).to_host.lane.takers) (host_waits (is_in_call bench 0) (is_drained bench 0) core.actors.host_calls busy none silent) in
+        let differ = eqb-false (length (link_in bench).to_host.lane.accepted) (length (link_in bench).to_host.lane.takers) (message_waits (is_in_call bench 0) (is_drained bench 0) (is_held_up bench 0 core.actors.host_calls) core.actors.host_calls busy none silent) in
         let clear = free (sym (host_call core.actors bench within reached live kept.own begun on) ∙ silent) in
         let handed = sound.to_host.lane.handed in
         let took = on.host.took in
@@ -362,11 +356,10 @@ module _ (Fits : WorkerState → Type 0) (records credit : WorkerState → ℕ) 
         let sound = reached_sound (link_in bench) reached.link in
         let free = free_takes 1 (link_in bench).era.inc on.worker_now (link_in bench).to_host.sender (link_in bench).to_remote.receiver on.worker.turns in
         let left = worker_walk core.actors bench within reached live kept.own begun on fits program.took (is_in_call bench 1) refl on.worker_now refl
-        (λ silent. begins bench 1 side.Remote kept.own.remote true core.actors.worker_calls silent ready.worker)
         (λ silent. not_none (is_in_call bench 1) (is_empty core.actors.worker_calls) has silent)
         (λ silent takes.
         let differ = eqb-false (length (link_in bench).to_remote.lane.accepted) (length (link_in bench).to_remote.lane.takers)
-        (worker_waits (is_in_call bench 1) core.actors.worker.is_halted (begins_with_take core.actors.worker_calls) (is_drained bench 1) busy silent takes) in
+        (message_comes (is_in_call bench 1) core.actors.worker.is_halted (begins_with_take core.actors.worker_calls) (is_drained bench 1) (is_held_up bench 1 core.actors.worker_calls) busy silent takes) in
         let clear = free (sym (worker_in_call core.actors bench within reached live kept.own begun on fits program.took) ∙ silent) in
         less_than _ _ _ sound.to_remote.lane.handed differ (on.worker.took ∙ ap (λ (n : ℕ). on.worker_took + n) clear)) in
         record {
@@ -495,7 +488,7 @@ module _ (Fits : WorkerState → Type 0) (records credit : WorkerState → ℕ) 
     going_on None none busy = busy
     going_on (Some bench) none busy =
         let parts = or_parts (is_in_call bench 1) _ none in
-        halts (is_in_call bench 1) core.actors.worker.is_halted (begins_with_take core.actors.worker_calls && is_drained bench 1) busy parts.0
+        halts (is_in_call bench 1) core.actors.worker.is_halted ((begins_with_take core.actors.worker_calls && is_drained bench 1) || is_held_up bench 1 core.actors.worker_calls) busy parts.0
 
     worker_came : worker_is_idle core.bench core.actors ≡ false → IfSome core.bench IsReachedBench → IfSome core.bench (IsKeptBench core.life)
         → IfSome core.bench HasNoneBegun → IfSome core.bench (IsReadyBench core.actors) → OnLink core.actors core.bench within → Came core within (worker_step core).core
@@ -507,7 +500,7 @@ module _ (Fits : WorkerState → Type 0) (records credit : WorkerState → ℕ) 
     actor_came : (who : Actor) → is_idle_actor core who ≡ false → IfSome core.bench IsReachedBench → IfSome core.bench (IsKeptBench core.life) → IfSome core.bench HasNoneBegun
         → IfSome core.bench (IsReadyBench core.actors) → OnLink core.actors core.bench within → Came core within (actor_step who core).core
     actor_came actor.Host busy reached kept begun ready on = host_came core.bench busy reached kept begun ready on
-    actor_came actor.Worker busy reached kept begun ready on = worker_came busy reached kept begun ready on
+    actor_came actor.Worker busy reached kept begun ready on = worker_came (or_parts (is_none core.loaded) (worker_is_idle core.bench core.actors) busy).1 reached kept begun ready on
 
   -- a core that runs a program, and whose actors make at most so many steps more
   pub record IsWithin (core : CoreState) (within : ℕ) : Type 0 where
@@ -533,27 +526,6 @@ module _ (Fits : WorkerState → Type 0) (records credit : WorkerState → ℕ) 
   turn_ready actors who None ready = tt
   turn_ready actors who (Some bench) ready = record { host = ready.host; worker = ready.worker }
 
-  host_idle_same : (actors : ActorsState) (who : Actor) (found : Option BenchState) → host_is_idle found (record actors { next = who }) ≡ host_is_idle found actors
-  host_idle_same actors who None = refl
-  host_idle_same actors who (Some bench) = refl
-
-  worker_idle_same : (actors : ActorsState) (who : Actor) (found : Option BenchState) → worker_is_idle found (record actors { next = who }) ≡ worker_is_idle found actors
-  worker_idle_same actors who None = refl
-  worker_idle_same actors who (Some bench) = refl
-
-  idle_same : (core : CoreState) (who next : Actor) → is_idle_actor (record core { actors = record core.actors { next = next } }) who ≡ is_idle_actor core who
-  idle_same core actor.Host next = host_idle_same core.actors next core.bench
-  idle_same core actor.Worker next = worker_idle_same core.actors next core.bench
-
-  other_busy : (core : CoreState) (who : Actor) → is_idle core ≡ false → is_idle_actor core who ≡ true → is_idle_actor core (other_actor who) ≡ false
-  other_busy core actor.Host busy idle = sym (ap (λ (b : Bool). b && worker_is_idle core.bench core.actors) idle) ∙ busy
-  other_busy core actor.Worker busy idle = and_first (host_is_idle core.bench core.actors) (worker_is_idle core.bench core.actors) busy idle
-
-  acting_busy : (core : CoreState) → is_idle core ≡ false → is_idle_actor core (actor_to_step core) ≡ false
-  acting_busy core busy =
-      cond_both (is_idle_actor core core.actors.next) (other_actor core.actors.next) core.actors.next (λ (who : Actor). is_idle_actor core who ≡ false)
-      (λ idle. other_busy core core.actors.next busy idle) (λ one. one)
-
   -- a step of the actors
   pub record Drove (core : CoreState) (within : ℕ) (after : CoreState) : Type 0 where
     pub some : 1 ≤ within
@@ -564,7 +536,7 @@ module _ (Fits : WorkerState → Type 0) (records credit : WorkerState → ℕ) 
   drive_within core within is running busy =
       let who = actor_to_step core in
       let turned = with_turn_after who core in
-      let moved = actor_came turned within is.load is.loaded is.program is.fits running who (idle_same core who (other_actor who) ∙ acting_busy core busy) is.reached.bench is.kept is.ready.begun
+      let moved = actor_came turned within is.load is.loaded is.program is.fits running who (acting_busy core busy) is.reached.bench is.kept is.ready.begun
       (turn_ready core.actors (other_actor who) core.bench (is.ready.calls (ap is_up running))) (turn_on core.actors (other_actor who) core.bench within is.on) in
       let stepped : drive_step core ≡ actor_step who turned = ap (λ (b : Bool). cond b (record { core = core; driven = driven.Idle }) (actor_step who turned)) busy in
       let next = sym (ap (λ (step : DriveStep). step.core) stepped) in

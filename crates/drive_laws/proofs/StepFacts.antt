@@ -1,6 +1,5 @@
 -- What a step of an actor leaves of both.
-use Rattle.std.proofs.Common.{◌≡◌, ℕ, Bool, true, false, cond, List, [], drop, Option, Some, None, is_some, refl, sym, subst, arith}
-use Rattle.std.proofs.lemmas.List.{append-nil}
+use Rattle.std.proofs.Common.{◌≡◌, ℕ, Bool, true, false, cond, List, Option, Some, None, is_some, refl, sym, subst}
 use Rattle.rp_base.specs.declared.kinds.LifeState.{LifeState}
 use Rattle.rp_base.specs.declared.kinds.LifeState.TheVariants.{Offline, Running, Crashed, Attached, Detached}
 use Rattle.remote_core.specs.Workers.{WorkerState}
@@ -38,12 +37,7 @@ host_reach actors bench (reach.Ended end) = record {
   worker_calls = refl;
   calls = host_queue actors.host_calls (gives_of (taken_number end)) (sends_of (end_answer actors.drivers (message_of bench 0 end) end)) actors.is_taking (is_tried_again end);
 }
-host_reach actors bench reach.Limit = record {
-  next = refl;
-  worker = refl;
-  worker_calls = refl;
-  calls = record { sent = 1; few = omega arith; new = []; left = sym (append-nil (drop 1 actors.host_calls)) };
-}
+host_reach actors bench reach.Limit = record { next = refl; worker = refl; worker_calls = refl; calls = all_stay 1 actors.host_calls }
 
 host_begins : (actors : ActorsState) (in_call : Bool) (bench : BenchState) (far : Reach) → HostStep actors (host_after_step (host_at_step_as in_call actors) bench far)
 host_begins actors true bench far = host_reach actors bench far
@@ -87,10 +81,8 @@ worker_reach actors bench (reach.Ended end) = record {
   step = record { next = refl; host_calls = refl; calls = worker_queue end actors.worker_calls };
   stays = stays_at actors.worker (message_of bench 1 end) (taken_number end);
 }
-worker_reach actors bench reach.Limit = record {
-  step = record { next = refl; host_calls = refl; calls = Queued (record { sent = 1; few = omega arith; new = []; left = sym (append-nil (drop 1 actors.worker_calls)) }) };
-  stays = itself actors.worker;
-}
+worker_reach actors bench reach.Limit =
+    record { step = record { next = refl; host_calls = refl; calls = Queued (all_stay 1 actors.worker_calls) }; stays = itself actors.worker }
 
 call_steps : (core : CoreState) (found : Option BenchState) → CallStep core.actors (worker_call core found).core.actors
 call_steps core None = record { step = record { next = refl; host_calls = refl; calls = Queued (all_stay 1 core.actors.worker_calls) }; stays = itself core.actors.worker }

@@ -1,15 +1,14 @@
 -- Who makes a step of a drive, and whose turn is next.
-use Rattle.std.proofs.Common.{◌≡◌, ◌⊎◌, inl, inr, ℕ, ◌&&◌, ◌||◌, not, suc, zero, Bool, true, false, cond, List, ◌∷◌, length, Option, Some, None, is_some, refl, ap, sym, ◌∙◌, subst, arith}
-use Rattle.std.proofs.lemmas.Bool.{ne_eqb}
+use Rattle.std.proofs.Common.{◌≡◌, ◌⊎◌, inl, inr, ℕ, ◌&&◌, ◌||◌, not, suc, zero, Bool, true, false, cond, List, ◌∷◌, length, Option, Some, None, is_none, is_some, refl, ap, sym, ◌∙◌, subst, arith}
+use Rattle.std.proofs.lemmas.Bool.{ne_eqb, or_parts}
 use Rattle.rp_base.specs.declared.kinds.End.{End}
 use Rattle.rp_base.specs.declared.kinds.End.TheVariants as side
 use Rattle.lane_model.specs.declared.calls.CallEnd.{CallEnd}
 use Rattle.lane_model.specs.declared.calls.Wish.{Wish}
 use Rattle.lane_model.specs.Links.{end_of}
-use Rattle.link_bench.specs.declared.benches.BenchFault.{BenchFault}
 use Rattle.link_bench.specs.declared.benches.Reach.{Reach}
 use Rattle.link_bench.specs.declared.benches.Reach.TheVariants as reach
-use Rattle.link_bench.specs.Benches.{BenchState, advance_walk, begin_fault, is_in_call, link_in, start_walk}
+use Rattle.link_bench.specs.Benches.{BenchState, advance_walk, is_in_call, link_in, start_walk}
 use Rattle.remote_core.specs.Works.{work_of}
 use Rattle.remote_core.specs.declared.workers.Work.{Work}
 use Rattle.remote_core.specs.declared.workers.Work.TheVariants as work
@@ -20,8 +19,9 @@ use Rattle.core_actors.specs.declared.progress.Driven.TheVariants as driven
 use Rattle.core_actors.specs.Actors.{ActorsState, other_actor}
 use Rattle.crash_recover.specs.Cores.{CoreState, LoadState}
 use Rattle.core_actors.specs.ActorEnds.{actors_after_end, actors_at_end, end_answer, message_of, sends_of}
-use Rattle.core_actors.specs.ActorSteps.{begun_step, drive_of_reach, drive_of_work, first_or_take, has_calls, host_is_idle, is_empty, link_step, worker_is_idle}
+use Rattle.core_actors.specs.ActorSteps.{drive_of_reach, drive_of_work, first_or_take, has_calls, host_is_idle, is_empty, link_step, worker_is_idle}
 use Rattle.crash_recover.specs.Drives.{DriveStep, actor_to_step, after_record, drive_step, driven_with_report, host_step, is_idle, is_idle_actor, placed_map, record_run, record_step, step_with_report, with_turn_after, worker_call, worker_step}
+use Rattle.crash_recover.proofs.DriveSteps.{other_busy}
 use Rattle.drive_laws.specs.Queues.{IsQueued}
 use Rattle.drive_laws.specs.Steps.{step_by, after_steps}
 use Rattle.drive_laws.proofs.QueueFacts.{all_stay, more_behind, queues_on}
@@ -34,8 +34,8 @@ and_false true = refl
 and_false false = refl
 
 busy_one : (core : CoreState) (one : Actor) → is_idle_actor core one ≡ false → is_idle core ≡ false
-busy_one core actor.Host busy = ap (λ b. b && worker_is_idle core.bench core.actors) busy
-busy_one core actor.Worker busy = ap (λ b. host_is_idle core.bench core.actors && b) busy ∙ and_false (host_is_idle core.bench core.actors)
+busy_one core actor.Host busy = ap (λ b. b && is_idle_actor core actor.Worker) busy
+busy_one core actor.Worker busy = ap (λ b. is_idle_actor core actor.Host && b) busy ∙ and_false (is_idle_actor core actor.Host)
 
 step_is : (core : CoreState) (one : Actor) → is_idle core ≡ false → actor_to_step core ≡ one → drive_step core ≡ step_by one core
 step_is core one busy acts =
@@ -53,7 +53,7 @@ passed_turn core idle busy =
 
 pub both_rest : (core : CoreState) → is_idle_actor core actor.Host ≡ true → is_idle_actor core actor.Worker ≡ true → drive_step core ≡ record { core = core; driven = driven.Idle }
 both_rest core host worker =
-    let idle : is_idle core ≡ true = ap (λ b. b && worker_is_idle core.bench core.actors) host ∙ worker in
+    let idle : is_idle core ≡ true = ap (λ b. b && is_idle_actor core actor.Worker) host ∙ worker in
     ap (λ (b : Bool). cond b (record { core = core; driven = driven.Idle }) (step_by (actor_to_step core) core)) idle
 
 pub turn_behind : (core : CoreState) (one : Actor) → (step_by one core).core.actors.next ≡ other_actor one
@@ -127,14 +127,14 @@ host_is : (core : CoreState) (actors : ActorsState) (found : Option BenchState) 
 host_is core actors None busy = absurd cc
 host_is core actors (Some bench) busy = walk_is 0 (link_step bench 0 (first_or_take core.actors.host_calls)).reach
 
-worker_is : (core : CoreState) → is_some core.loaded ≡ true → IsSome (worker_step core).driven
+worker_is : (core : CoreState) → is_none core.loaded ≡ false → IsSome (worker_step core).driven
 worker_is core loaded = by (has_calls core.bench core.actors) refl
   where
     on_link : (found : Option BenchState) → has_calls found core.actors ≡ true → IsSome (worker_call core found).driven
     on_link None calls = absurd cc
     on_link (Some bench) calls = walk_is 1 (link_step bench 1 (first_or_take core.actors.worker_calls)).reach
 
-    of_record : (given : Option LoadState) → is_some given ≡ true → IsSome (step_with_report (record_run core given)).driven
+    of_record : (given : Option LoadState) → is_none given ≡ false → IsSome (step_with_report (record_run core given)).driven
     of_record None there = absurd cc
     of_record (Some load) there = let map = placed_map core.regions load in work_is (work_of load.memory map (is_some core.bench) core.actors.worker) (after_record core load map)
 
@@ -143,26 +143,18 @@ worker_is core loaded = by (has_calls core.bench core.actors) refl
     by false calls = of_record core.loaded loaded
 
 -- who acts has something to do
-other_busy : (core : CoreState) (who : Actor) → is_idle core ≡ false → is_idle_actor core who ≡ true → is_idle_actor core (other_actor who) ≡ false
-other_busy core actor.Host busy idle = sym (ap (λ (b : Bool). b && worker_is_idle core.bench core.actors) idle) ∙ busy
-other_busy core actor.Worker busy idle = and_first (host_is_idle core.bench core.actors) (sym (ap (λ (b : Bool). host_is_idle core.bench core.actors && b) idle) ∙ busy)
-  where
-    and_first : (a : Bool) → (a && true) ≡ false → a ≡ false
-    and_first true e = e
-    and_first false e = refl
+step_some : (core : CoreState) (who : Actor) → is_idle_actor core who ≡ false → IsSome (step_by who core).driven
+step_some core actor.Host busy = host_is (with_turn_after actor.Host core) core.actors core.bench busy
+step_some core actor.Worker busy = worker_is (with_turn_after actor.Worker core) (or_parts (is_none core.loaded) (worker_is_idle core.bench core.actors) busy).0
 
-step_some : (core : CoreState) (who : Actor) → is_some core.loaded ≡ true → is_idle_actor core who ≡ false → IsSome (step_by who core).driven
-step_some core actor.Host loaded busy = host_is (with_turn_after actor.Host core) core.actors core.bench busy
-step_some core actor.Worker loaded busy = worker_is (with_turn_after actor.Worker core) loaded
-
-pub idle_only : (core : CoreState) → is_some core.loaded ≡ true → (drive_step core).driven ≡ driven.Idle → is_idle core ≡ true
-idle_only core loaded rest = by (is_idle core) refl
+pub idle_only : (core : CoreState) → (drive_step core).driven ≡ driven.Idle → is_idle core ≡ true
+idle_only core rest = by (is_idle core) refl
   where
     acted : (idle : Bool) → is_idle core ≡ false → is_idle_actor core core.actors.next ≡ idle → IsSome (drive_step core).driven
     acted true busy is =
         let works = other_busy core core.actors.next busy is in
-        subst (λ (step : DriveStep). IsSome step.driven) (sym (passed_turn core is works)) (step_some core (other_actor core.actors.next) loaded works)
-    acted false busy is = subst (λ (step : DriveStep). IsSome step.driven) (sym (own_turn core is)) (step_some core core.actors.next loaded is)
+        subst (λ (step : DriveStep). IsSome step.driven) (sym (passed_turn core is works)) (step_some core (other_actor core.actors.next) works)
+    acted false busy is = subst (λ (step : DriveStep). IsSome step.driven) (sym (own_turn core is)) (step_some core core.actors.next is)
 
     by : (idle : Bool) → is_idle core ≡ idle → is_idle core ≡ true
     by true is = is
@@ -172,14 +164,12 @@ idle_only core loaded rest = by (is_idle core) refl
 
 -- a link on which this caller has a call under way, or begins one
 walk_on : (bench : BenchState) (caller : ℕ) (wanted : Wish) → is_in_call bench caller ≡ true → link_step bench caller wanted ≡ advance_walk bench 0 0 caller
-walk_on bench caller wanted calls = ap (λ b. cond b (advance_walk bench 0 0 caller) (begun_step bench caller wanted)) calls
+walk_on bench caller wanted calls = ap (λ b. cond b (advance_walk bench 0 0 caller) (start_walk bench 0 caller wanted)) calls
 
-walk_first : (bench : BenchState) (caller : ℕ) (calls : List Wish) (wanted : Wish) → is_in_call bench caller ≡ false → first_or_take calls ≡ wanted → begin_fault bench caller wanted ≡ None
+walk_first : (bench : BenchState) (caller : ℕ) (calls : List Wish) (wanted : Wish) → is_in_call bench caller ≡ false → first_or_take calls ≡ wanted
     → link_step bench caller (first_or_take calls) ≡ start_walk bench 0 caller wanted
-walk_first bench caller calls wanted silent first clear =
-    ap (λ b. cond b (advance_walk bench 0 0 caller) (begun_step bench caller (first_or_take calls))) silent
-    ∙ ap (begun_step bench caller) first
-    ∙ ap (λ (fault : Option BenchFault). cond (is_some fault) (record { bench = bench; steps = 0; reach = reach.Limit }) (start_walk bench 0 caller wanted)) clear
+walk_first bench caller calls wanted silent first =
+    ap (λ b. cond b (advance_walk bench 0 0 caller) (start_walk bench 0 caller (first_or_take calls))) silent ∙ ap (start_walk bench 0 caller) first
 
 host_bench : (core : CoreState) (bench : BenchState) → core.bench ≡ Some bench → (step_by actor.Host core).core.bench ≡ Some (link_step bench 0 (first_or_take core.actors.host_calls)).bench
 host_bench core bench there = ap (λ (found : Option BenchState). (host_step (with_turn_after actor.Host core) found).core.bench) there
@@ -187,10 +177,10 @@ host_bench core bench there = ap (λ (found : Option BenchState). (host_step (wi
 pub host_goes_on : (core : CoreState) (bench : BenchState) → core.bench ≡ Some bench → is_in_call bench 0 ≡ true → (step_by actor.Host core).core.bench ≡ Some (advance_walk bench 0 0 0).bench
 host_goes_on core bench there calls = host_bench core bench there ∙ ap (λ walk. Some walk.bench) (walk_on bench 0 (first_or_take core.actors.host_calls) calls)
 
-pub host_begins : (core : CoreState) (bench : BenchState) (wanted : Wish) → core.bench ≡ Some bench → is_in_call bench 0 ≡ false → first_or_take core.actors.host_calls ≡ wanted → begin_fault bench 0 wanted ≡ None
+pub host_begins : (core : CoreState) (bench : BenchState) (wanted : Wish) → core.bench ≡ Some bench → is_in_call bench 0 ≡ false → first_or_take core.actors.host_calls ≡ wanted
     → (step_by actor.Host core).core.bench ≡ Some (start_walk bench 0 0 wanted).bench
-host_begins core bench wanted there silent first clear =
-    host_bench core bench there ∙ ap (λ walk. Some walk.bench) (walk_first bench 0 core.actors.host_calls wanted silent first clear)
+host_begins core bench wanted there silent first =
+    host_bench core bench there ∙ ap (λ walk. Some walk.bench) (walk_first bench 0 core.actors.host_calls wanted silent first)
 
 -- the worker where it makes a call
 worker_bench : (core : CoreState) (bench : BenchState) → core.bench ≡ Some bench → (is_in_call bench 1 || not (is_empty core.actors.worker_calls)) ≡ true
@@ -211,10 +201,10 @@ has_first : (first : Wish) (later : List Wish) → not (is_empty (first ∷ late
 has_first first later = ap not (ne_eqb (suc (length later)) 0 (λ none. absurd (omega arith)))
 
 pub worker_begins : (core : CoreState) (bench : BenchState) (first : Wish) (later : List Wish) → core.bench ≡ Some bench → is_in_call bench 1 ≡ false → core.actors.worker_calls ≡ first ∷ later
-    → begin_fault bench 1 first ≡ None → (step_by actor.Worker core).core.bench ≡ Some (start_walk bench 0 1 first).bench
-worker_begins core bench first later there silent calls clear =
+    → (step_by actor.Worker core).core.bench ≡ Some (start_walk bench 0 1 first).bench
+worker_begins core bench first later there silent calls =
     worker_bench core bench there (ap (λ b. b || not (is_empty core.actors.worker_calls)) silent ∙ ap (λ list. not (is_empty list)) calls ∙ has_first first later)
-    ∙ ap (λ walk. Some walk.bench) (walk_first bench 1 core.actors.worker_calls first silent (ap first_or_take calls) clear)
+    ∙ ap (λ walk. Some walk.bench) (walk_first bench 1 core.actors.worker_calls first silent (ap first_or_take calls))
 
 -- ---- what is pending over steps
 

@@ -10,7 +10,7 @@ ghost use Rattle.remote_code.specs.declared.records.Record.{Record};
 ghost use Rattle.remote_core.specs.Records.{next_record, record_at};
 ghost use Rattle.remote_core.specs.Workers.{WorkerState};
 ghost use Rattle.remote_core.specs.Works.{after_work};
-ghost use Rattle.link_bench.specs.Benches.{BenchState, advance_walk, begin_fault, is_in_call, start_walk};
+ghost use Rattle.link_bench.specs.Benches.{BenchState, advance_walk, is_in_call, start_walk};
 ghost use Rattle.core_actors.specs.declared.actors.Actor.{Actor};
 ghost use Rattle.core_actors.specs.declared.actors.Actor.TheVariants as actor;
 ghost use Rattle.core_actors.specs.declared.progress.Driven.TheVariants as driven;
@@ -43,9 +43,9 @@ pub fn no_wait()
         is_idle_actor next one ≡ false → (drive_step core ≡ step_by one core) ⊎ (drive_step next ≡ step_by one next) }
 {}
 
-/// A step of a core that is loaded is one of an actor that does something, unless both have nothing to do.
+/// A step is one of an actor that does something, unless both have nothing to do.
 pub fn idle()
-    ensures { (core : CoreState) → is_some core.loaded ≡ true → (drive_step core).driven ≡ driven.Idle → is_idle core ≡ true }
+    ensures { (core : CoreState) → (drive_step core).driven ≡ driven.Idle → is_idle core ≡ true }
 {}
 
 /// What an actor does on the link: a call under way goes on by one step; else the first of the calls that it is yet to make begins, with its
@@ -54,15 +54,15 @@ pub fn calls()
     ensures host_on { (core : CoreState) (bench : BenchState) → core.bench ≡ Some bench → is_in_call bench 0 ≡ true
         → (step_by actor.Host core).core.bench ≡ Some (advance_walk bench 0 0 0).bench }
     ensures host_first { (core : CoreState) (bench : BenchState) (first : Wish) (later : List Wish) → core.bench ≡ Some bench → is_in_call bench 0 ≡ false
-        → core.actors.host_calls ≡ first ∷ later → begin_fault bench 0 first ≡ None
+        → core.actors.host_calls ≡ first ∷ later
         → (step_by actor.Host core).core.bench ≡ Some (start_walk bench 0 0 first).bench }
     ensures host_take { (core : CoreState) (bench : BenchState) → core.bench ≡ Some bench → is_in_call bench 0 ≡ false
-        → core.actors.host_calls ≡ [] → begin_fault bench 0 wish.Take ≡ None
+        → core.actors.host_calls ≡ []
         → (step_by actor.Host core).core.bench ≡ Some (start_walk bench 0 0 wish.Take).bench }
     ensures worker_on { (core : CoreState) (bench : BenchState) → core.bench ≡ Some bench → is_in_call bench 1 ≡ true
         → (step_by actor.Worker core).core.bench ≡ Some (advance_walk bench 0 0 1).bench }
     ensures worker_first { (core : CoreState) (bench : BenchState) (first : Wish) (later : List Wish) → core.bench ≡ Some bench → is_in_call bench 1 ≡ false
-        → core.actors.worker_calls ≡ first ∷ later → begin_fault bench 1 first ≡ None
+        → core.actors.worker_calls ≡ first ∷ later
         → (step_by actor.Worker core).core.bench ≡ Some (start_walk bench 0 1 first).bench }
 {}
 

@@ -186,7 +186,7 @@ pub host_fields : (actors : ActorsState) (bench : BenchState) (came : Reach) →
 host_fields actors bench (reach.At step) link is calls = calls
 host_fields actors bench (reach.Ended ended) link is calls =
     driven_fields (host_after_call actors ended) (message_of bench 0 ended) ended (message_are bench 0 ended link) (host_end_fields actors ended is calls)
-host_fields actors bench reach.Limit link is calls = record { host = All-drop IsFieldWish 1 actors.host_calls calls.host; worker = calls.worker }
+host_fields actors bench reach.Limit link is calls = calls
 
 begun_as_fields : (in_call : Bool) (actors : ActorsState) → AreFieldCalls actors → AreFieldCalls (host_at_step_as in_call actors)
 begun_as_fields true actors calls = calls
@@ -202,7 +202,7 @@ worker_fields actors bench (reach.Ended ended) is calls = record {
   worker = All-append IsFieldWish (gives_of (taken_number ended)) (calls_after_end ended actors.worker_calls) (gives_fields (taken_number ended) (taken_small ended is))
       (left_fields ended actors.worker_calls calls.worker);
 }
-worker_fields actors bench reach.Limit is calls = record { host = calls.host; worker = All-drop IsFieldWish 1 actors.worker_calls calls.worker }
+worker_fields actors bench reach.Limit is calls = calls
 
 pub first_fields : (calls : List Wish) → AreFieldWishes calls → IsFieldWish (first_or_take calls)
 first_fields [] are = tt

@@ -1,5 +1,5 @@
 -- Steps of a core's actors, and acts on its link, keep the numbers and bytes of the core within their types.
-use Rattle.std.proofs.Common.{◌≡◌, ℕ, ◌<◌, ◌^◌, true, false, cond, List, Option, Some, None, IfSome, is_some, Result, Ok, Err, IfOk, refl, sym, ap, ◌∙◌, arith}
+use Rattle.std.proofs.Common.{◌≡◌, ℕ, ◌<◌, ◌^◌, true, List, Option, Some, IfSome, is_some, Result, Ok, Err, IfOk, sym, ap, ◌∙◌, arith}
 use Rattle.proc_state.specs.declared.answers.LifeFault.{LifeFault}
 use Rattle.crash_recover.specs.declared.core_answers.Crash.{Crash}
 use Rattle.crash_recover.specs.declared.core_answers.Crash.TheVariants as crash
@@ -13,11 +13,10 @@ use Rattle.lane_model.specs.declared.calls.Wish.{Wish}
 use Rattle.lane_model.specs.Links.{free_number}
 use Rattle.lane_model.specs.Recoveries.{link_reclaim_refusal}
 use Rattle.link_bench.specs.declared.acts.LinkAct.{LinkAct}
-use Rattle.link_bench.specs.declared.benches.BenchFault.{BenchFault}
 use Rattle.link_bench.specs.declared.benches.Reach.{Reach}
 use Rattle.link_bench.specs.declared.benches.Reach.TheVariants as reach
 use Rattle.link_bench.specs.Acts.{Acted, IsFitAct}
-use Rattle.link_bench.specs.Benches.{BenchState, BenchWalk, IsSendable, advance_walk, begin_fault, is_in_call, link_in, start_walk}
+use Rattle.link_bench.specs.Benches.{BenchState, IsSendable, advance_walk, is_in_call, link_in, start_walk}
 use Rattle.core_actors.specs.declared.progress.Driven.{Driven}
 use Rattle.core_actors.specs.declared.progress.Driven.TheVariants as driven
 use Rattle.core_actors.specs.Actors.{ActorsState}
@@ -25,10 +24,10 @@ use Rattle.core_actors.specs.ActorEnds.{actors_after_end}
 use Rattle.core_actors.specs.ActorSteps.{drive_of_reach, drive_of_work, first_or_take, host_at_step, link_step}
 use Rattle.crash_recover.specs.CoreActs.{act_on_core, core_after_act}
 use Rattle.crash_recover.specs.Cores.{CoreState, LoadState}
-use Rattle.crash_recover.specs.Drives.{DriveStep, closed_by, core_with_report, drive_step, driven_with_report, host_step, placed_map, record_run, record_step, worker_call}
+use Rattle.crash_recover.specs.Drives.{DriveStep, closed_by, core_with_report, drive_step, driven_with_report, host_step, placed_map, worker_call}
 use Rattle.core_laws.specs.BenchMoves.{IsReachedBench, IsReachedCore}
 use Rattle.core_laws.proofs.CoreMoves.{first_sendable, reached_parts}
-use Rattle.core_laws.proofs.DriveWalks.{HoldOfParts, drive_walk, of_link}
+use Rattle.core_laws.proofs.DriveWalks.{MayGoOn, HoldOfParts, drive_walk, of_link}
 use Rattle.crash_recover.proofs.KeptActs.{AreKeptSteps, act_kept}
 use Rattle.core_laws.proofs.BenchMoves.{advanced, begun_reached, enlisted, reclaim_tried}
 use Rattle.field_laws.specs.Fields.{IsFieldWish}
@@ -47,28 +46,22 @@ pub record HoldsDrive (step : DriveStep) : Type 0 where
 
 -- ---- steps on the link
 
-no_fault : (found : Option BenchFault) → is_some found ≡ false → found ≡ None
-no_fault None none = refl
-no_fault (Some why) none = absurd (true≢false none)
-
-link_fields : (bench : BenchState) (caller : ℕ) (wanted : Wish) → IsReachedBench bench → IsFieldBench bench → IsSendable wanted → IsFieldWish wanted → HoldsBenchWalk (link_step bench caller wanted)
-link_fields bench caller wanted reached is sendable wishes =
-    let none : BenchWalk = record { bench = bench; steps = 0; reach = reach.Limit } in
-    cond_both (is_in_call bench caller) (advance_walk bench 0 0 caller) (cond (is_some (begin_fault bench caller wanted)) none (start_walk bench 0 caller wanted)) HoldsBenchWalk
-    (λ in_call. advance_fields bench 0 0 caller in_call reached is)
-    (λ _. cond_both (is_some (begin_fault bench caller wanted)) none (start_walk bench 0 caller wanted) HoldsBenchWalk (λ _. record { bench = is; reach = tt })
-    (λ ready. start_fields bench 0 caller wanted (no_fault (begin_fault bench caller wanted) ready) sendable wishes reached is))
+link_fields : (bench : BenchState) (caller : ℕ) (calls : List Wish) → MayGoOn bench caller calls → IsReachedBench bench → IsFieldBench bench → IsSendable (first_or_take calls) → IsFieldWish (first_or_take calls)
+    → HoldsBenchWalk (link_step bench caller (first_or_take calls))
+link_fields bench caller calls may reached is sendable wishes =
+    cond_both (is_in_call bench caller) (advance_walk bench 0 0 caller) (start_walk bench 0 caller (first_or_take calls)) HoldsBenchWalk
+    (λ in_call. advance_fields bench 0 0 caller in_call reached is) (λ none. start_fields bench 0 caller (first_or_take calls) (may none) sendable wishes reached is)
 
 by_reach : (caller : ℕ) (came : Reach) → caller < 2 ^ 64 → IsFieldReach came → IsFieldDriven (drive_of_reach caller came)
 by_reach caller (reach.At step) small is = tt
 by_reach caller (reach.Ended ended) small is = (small, is)
 by_reach caller reach.Limit small is = tt
 
-host_at : (core : CoreState) (found : Option BenchState) → IsReachedCore core → IfSome found IsReachedBench → IsFieldCore core → IfSome found IsFieldBench → HoldsDrive (host_step core found)
-host_at core None reached here is bench = record { core = is; driven = tt }
-host_at core (Some bench) reached here is fields =
+host_at : (core : CoreState) (bench : BenchState) → MayGoOn bench 0 core.actors.host_calls → IsReachedCore core → IsReachedBench bench → IsFieldCore core → IsFieldBench bench
+    → HoldsDrive (host_step core (Some bench))
+host_at core bench may reached here is fields =
     let walk = link_step bench 0 (first_or_take core.actors.host_calls) in
-    let left = link_fields bench 0 (first_or_take core.actors.host_calls) here fields (first_sendable core.actors.host_calls reached.calls.host) (first_fields core.actors.host_calls is.calls.host) in
+    let left = link_fields bench 0 core.actors.host_calls may here fields (first_sendable core.actors.host_calls reached.calls.host) (first_fields core.actors.host_calls is.calls.host) in
     record {
       core = record {
         book = is.book;
@@ -83,11 +76,11 @@ host_at core (Some bench) reached here is fields =
       driven = by_reach 0 walk.reach (omega arith) left.reach;
     }
 
-worker_at : (core : CoreState) (found : Option BenchState) → IsReachedCore core → IfSome found IsReachedBench → IsFieldCore core → IfSome found IsFieldBench → HoldsDrive (worker_call core found)
-worker_at core None reached here is bench = record { core = is; driven = tt }
-worker_at core (Some bench) reached here is fields =
+worker_at : (core : CoreState) (bench : BenchState) → MayGoOn bench 1 core.actors.worker_calls → IsReachedCore core → IsReachedBench bench → IsFieldCore core → IsFieldBench bench
+    → HoldsDrive (worker_call core (Some bench))
+worker_at core bench may reached here is fields =
     let walk = link_step bench 1 (first_or_take core.actors.worker_calls) in
-    let left = link_fields bench 1 (first_or_take core.actors.worker_calls) here fields (first_sendable core.actors.worker_calls reached.calls.worker) (first_fields core.actors.worker_calls is.calls.worker) in
+    let left = link_fields bench 1 core.actors.worker_calls may here fields (first_sendable core.actors.worker_calls reached.calls.worker) (first_fields core.actors.worker_calls is.calls.worker) in
     record {
       core = record { book = is.book; life = is.life; image = is.image; loaded = is.loaded; placed = is.placed; rest = is.rest; bench = left.bench; calls = worker_fields core.actors walk.bench walk.reach left.reach is.calls };
       driven = by_reach 1 walk.reach (omega arith) left.reach;
@@ -102,9 +95,9 @@ by_work work.Halted = tt
 by_work (work.Crash kind) = tt
 by_work (work.Fault why) = tt
 
-run_fields : (core : CoreState) (loaded : Option LoadState) → core.loaded ≡ loaded → IsFieldCore core → IfSome loaded IsFieldLoad → IfSome loaded (IsFieldPlaced core.regions) → HoldsDrive (record_run core loaded)
-run_fields core None same is here placed = record { core = is; driven = tt }
-run_fields core (Some load) same is here placed =
+run_fields : (core : CoreState) (load : LoadState) → core.loaded ≡ Some load → IsFieldCore core → IsFieldLoad load → IsFieldPlaced core.regions load
+    → HoldsDrive (run_by core load (placed_map core.regions load))
+run_fields core load same is here placed =
     let map = placed_map core.regions load in
     record {
       core = record {
@@ -141,10 +134,11 @@ closed_fields (driven.Ended caller ended) core is told = told
 closed_fields (driven.Worker why closed) core is told = closed_field (report_of true core).answer (report_fields true core is).answer
 closed_fields (driven.Crashed kind closed) core is told = closed_field (report_of true core).answer (report_fields true core is).answer
 
-record_fields : (core : CoreState) → IsFieldCore core → HoldsDrive (record_step core)
-record_fields core is =
-    let ran = run_fields core core.loaded refl is is.loaded is.placed in
-    record { core = reported_fields (record_run core core.loaded).driven (record_run core core.loaded).core ran.core; driven = closed_fields (record_run core core.loaded).driven (record_run core core.loaded).core ran.core ran.driven }
+record_fields : (core : CoreState) (load : LoadState) → core.loaded ≡ Some load → IsFieldCore core → HoldsDrive (step_with_report (run_by core load (placed_map core.regions load)))
+record_fields core load same is =
+    let done = run_by core load (placed_map core.regions load) in
+    let ran = run_fields core load same is (subst (λ (found : Option LoadState). IfSome found IsFieldLoad) same is.loaded) (subst (λ (found : Option LoadState). IfSome found (IsFieldPlaced core.regions)) same is.placed) in
+    record { core = reported_fields done.driven done.core ran.core; driven = closed_fields done.driven done.core ran.core ran.driven }
 
 -- ---- a step of the actors
 
@@ -162,9 +156,9 @@ drive_parts = record {
         reached = reached_parts.turn who core is.reached;
         fields = record { book = fields.book; life = fields.life; image = fields.image; loaded = fields.loaded; placed = fields.placed; rest = fields.rest; bench = fields.bench; calls = record { host = fields.calls.host; worker = fields.calls.worker } };
       };
-  host = λ core bench there is. host_at core (Some bench) is.reached (of_link IsReachedBench core bench there is.reached.bench) is.fields (of_link IsFieldBench core bench there is.fields.bench);
-  call = λ core bench there is. worker_at core (Some bench) is.reached (of_link IsReachedBench core bench there is.reached.bench) is.fields (of_link IsFieldBench core bench there is.fields.bench);
-  work = λ core silent is. record_fields core is.fields;
+  host = λ core bench there may is. host_at core bench may is.reached (of_link IsReachedBench core bench there is.reached.bench) is.fields (of_link IsFieldBench core bench there is.fields.bench);
+  call = λ core bench there may is. worker_at core bench may is.reached (of_link IsReachedBench core bench there is.reached.bench) is.fields (of_link IsFieldBench core bench there is.fields.bench);
+  work = λ core load there silent is. record_fields core load there is.fields;
 }
 
 pub drive_fields : (core : CoreState) → IsReachedCore core → IsFieldCore core → HoldsDrive (drive_step core)

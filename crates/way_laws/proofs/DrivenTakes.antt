@@ -9,10 +9,10 @@ use Rattle.remote_core.specs.Works.{work_of}
 use Rattle.link_bench.specs.declared.benches.BegunCall.{BegunCall}
 use Rattle.link_bench.specs.declared.benches.Reach.{Reach}
 use Rattle.link_bench.specs.declared.benches.Reach.TheVariants as reach
-use Rattle.link_bench.specs.Benches.{BenchState, BenchWalk, advance_steps, advance_walk, begin_fault, begun_call_of, is_in_call, link_in, start_walk}
+use Rattle.link_bench.specs.Benches.{BenchState, BenchWalk, advance_steps, advance_walk, begun_call_of, is_in_call, link_in, start_walk}
 use Rattle.core_actors.specs.declared.actors.Actor.{Actor}
 use Rattle.core_actors.specs.declared.actors.Actor.TheVariants as actor
-use Rattle.core_actors.specs.ActorSteps.{begun_step, drive_of_reach, drive_of_work, first_or_take, has_calls, link_step}
+use Rattle.core_actors.specs.ActorSteps.{drive_of_reach, drive_of_work, first_or_take, has_calls, link_step}
 use Rattle.crash_recover.specs.CoreCrashes.{report_of}
 use Rattle.crash_recover.specs.Cores.{CoreState, LoadState}
 use Rattle.crash_recover.specs.Drives.{DriveStep, actor_step, actor_to_step, after_record, core_with_report, drive_step, driven_with_report, host_step, is_idle, placed_map, record_run, record_step, step_with_report, with_turn_after, worker_call}
@@ -48,9 +48,8 @@ module _ (end : End) where
   link_told : (bench : BenchState) (caller : ℕ) (wanted : Wish) → IsWalkTold caller (link_step bench caller wanted) (link_deeds bench caller wanted)
   link_told bench caller wanted =
       let walk = start_walk bench 0 caller wanted in
-      both (IsWalkTold caller) (is_in_call bench caller) (advance_walk bench 0 0 caller) (begun_step bench caller wanted) (advance_deeds bench 0 0 caller (begun_call_of bench caller)) (begun_deeds bench caller wanted)
-      (advance_told bench caller (begun_call_of bench caller))
-      (both (IsWalkTold caller) (is_some (begin_fault bench caller wanted)) (record { bench = bench; steps = 0; reach = reach.Limit }) walk no_deeds _ refl (reach_told walk.bench caller walk.reach))
+      both (IsWalkTold caller) (is_in_call bench caller) (advance_walk bench 0 0 caller) walk (advance_deeds bench 0 0 caller (begun_call_of bench caller)) (begun_deeds bench caller wanted)
+      (advance_told bench caller (begun_call_of bench caller)) (reach_told walk.bench caller walk.reach)
 
   -- ---- a step of an actor
 

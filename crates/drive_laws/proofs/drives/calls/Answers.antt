@@ -7,8 +7,8 @@ use Rattle.drive_laws.proofs.drives.calls.Goals as goal
 pub returns : goal.returns
 returns c = record {
   host_on = host_goes_on;
-  host_first = λ core bench first later there silent calls clear. host_begins core bench first there silent (ap first_or_take calls) clear;
-  host_take = λ core bench there silent none clear. host_begins core bench wish.Take there silent (ap first_or_take none) clear;
+  host_first = λ core bench first later there silent calls. host_begins core bench first there silent (ap first_or_take calls);
+  host_take = λ core bench there silent none. host_begins core bench wish.Take there silent (ap first_or_take none);
   worker_on = worker_goes_on;
   worker_first = worker_begins;
 }
