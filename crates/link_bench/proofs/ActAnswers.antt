@@ -61,10 +61,10 @@ IsFaultOf Is other = Unit {0}
 pub data Reaches (own : ℕ) (Fits : Wish → Type 0) (bench : BenchState) : List ActPart → BenchState → ℕ → Reach → Type 0 where
   OfCall : (steps caller : ℕ) (wanted : Wish) → MayPart own Fits bench (Calls steps caller wanted)
       → Reaches own Fits bench (Calls steps caller wanted ∷ Sees caller (call_walk bench steps caller wanted).reach ∷ []) (call_walk bench steps caller wanted).bench caller
-        (call_walk bench steps caller wanted).reach
+      (call_walk bench steps caller wanted).reach
   OfSteps : (more steps caller : ℕ) → MayPart own Fits bench (Advances more steps caller)
       → Reaches own Fits bench (Advances more steps caller ∷ Sees caller (advance_walk bench more steps caller).reach ∷ []) (advance_walk bench more steps caller).bench caller
-        (advance_walk bench more steps caller).reach
+      (advance_walk bench more steps caller).reach
 
 -- a whole call of a caller came so far, on a bench to which parts lead
 pub data Came {W : Type 0} (sees : Seeing W) (own : ℕ) (Fits : Wish → Type 0) (start : BenchState) (first : W) : ℕ → Reach → Type 0 where
