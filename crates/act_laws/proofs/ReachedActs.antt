@@ -1,5 +1,5 @@
 -- What a reached bench allows: the deeds of each act on it.
-use Rattle.std.proofs.Common.{◌≡◌, ℕ, true, List, [], ◌∷◌, Option, Some, None, slice_get, refl}
+use Rattle.std.proofs.Common.{◌≡◌, ℕ, true, List, Option, Some, None, slice_get, refl}
 use Rattle.lane_model.specs.Conditions.{is_calling}
 use Rattle.link_bench.specs.declared.acts.LinkAct.{LinkAct}
 use Rattle.link_bench.specs.declared.benches.BegunCall.{BegunCall}
