@@ -6,23 +6,17 @@ use Rattle.rp_base.specs.declared.kinds.End.TheVariants as side
 use Rattle.rp_base.specs.declared.limits.TheConstants.{CALLERS_MOST}
 use Rattle.proc_state.specs.declared.answers.LifeFault.{LifeFault}
 use Rattle.lane_model.specs.declared.calls.Wish.{Wish}
-use Rattle.lane_model.specs.declared.calls.Wish.TheVariants as wish
 use Rattle.lane_model.specs.declared.recoveries.ReclaimRefusal.{ReclaimRefusal}
 use Rattle.lane_model.specs.Lanes.{holder}
 use Rattle.lane_model.specs.Links.{end_of, free_number}
 use Rattle.lane_model.specs.Recoveries.{link_reclaim_refusal}
 use Rattle.lane_laws.specs.Moves.{Close, Enlist, Move, Reclaim}
-use Rattle.link_bench.specs.declared.acts.How.{How}
-use Rattle.link_bench.specs.declared.acts.How.TheVariants as how
 use Rattle.link_bench.specs.declared.acts.LinkAct.{LinkAct}
-use Rattle.link_bench.specs.declared.acts.LinkAct.TheVariants as act
 use Rattle.link_bench.specs.declared.benches.BegunCall.{BegunCall}
-use Rattle.link_bench.specs.declared.turns.TurnEnd.{TurnEnd}
-use Rattle.link_bench.specs.Acts.{misfit, own_in, pump_refusal, wish_of}
+use Rattle.link_bench.specs.ActParts.{ActPart, Advances, Begins, Calls, Joins, Reclaims, Sees, act_parts, bench_after}
 use Rattle.link_bench.specs.BenchCrashes.{after_close}
 use Rattle.link_bench.specs.BenchEnds.{is_first, is_remote, without_one, without_other}
-use Rattle.link_bench.specs.Benches.{BenchState, advance_steps, begin_fault, begun_call_of, call_walk, is_in_call, link_in, ready_fault, start_walk, step_fault}
-use Rattle.link_bench.specs.Turns.{is_whole, one_turn, turn_call, turn_message}
+use Rattle.link_bench.specs.Benches.{BenchState, advance_steps, begin_fault, begun_call_of, call_walk, is_in_call, link_in, start_walk}
 use Rattle.link_bench.specs.Watchers.{Seeing}
 use Rattle.core_actors.specs.declared.actors.Actor.{Actor}
 use Rattle.core_actors.specs.declared.actors.Actor.TheVariants as actor
@@ -35,7 +29,7 @@ use Rattle.crash_recover.specs.CoreCrashes.{report_of}
 use Rattle.crash_recover.specs.Cores.{CoreState}
 use Rattle.crash_recover.specs.Drives.{actor_to_step, is_idle, record_run, with_turn_after}
 use Rattle.act_laws.specs.CoreDeeds.{actor_deeds, actor_link_deeds, begun_deeds, crash_deeds, drive_deeds, link_deeds, one_remote, other_deeds, others_deeds, ready_deeds, record_deeds, remote_deeds, renewed_deeds, reported_deeds}
-use Rattle.act_laws.specs.Deeds.{Deeds, act_deeds, advance_deeds, behind, call_moves, caller_deeds, deeds_then, free_deeds, later_moves, made_deeds, no_deeds, one_deeds, one_move, pump_deeds, reclaim_deeds, take_deeds, turn_deeds, unless_told, whole_deeds}
+use Rattle.act_laws.specs.Deeds.{Deeds, act_deeds, advance_deeds, call_moves, caller_deeds, deeds_then, later_moves, no_deeds, one_move, part_deeds, parts_deeds, reclaim_deeds, whole_deeds}
 use Rattle.act_laws.proofs.Closes.{AllCloseNone}
 
 -- ---- deeds that close no link
@@ -54,10 +48,6 @@ either_open : (test : Bool) (one other : Deeds) → CloseNone one → CloseNone 
 either_open true one other first second = first
 either_open false one other first second = second
 
-unless_open : {X : Type 0} (why : Option X) (deeds : Deeds) → CloseNone deeds → CloseNone (unless_told why deeds)
-unless_open None deeds is = is
-unless_open (Some why) deeds is = tt
-
 later_open : (count caller : ℕ) → AllCloseNone (later_moves count caller)
 later_open zero caller = tt
 later_open (suc more) caller = (tt, later_open more caller)
@@ -73,32 +63,6 @@ advance_open : (bench : BenchState) (more steps caller : ℕ) (found : Option Be
 advance_open bench more steps caller (Some call) = call_open ((advance_steps bench more steps caller (Some call)).steps - steps) caller call.follows call.wish
 advance_open bench more steps caller None = later_open ((advance_steps bench more steps caller None).steps - steps) caller
 
-turn_open : (bench : BenchState) (steps caller : ℕ) (wanted : Wish) → CloseNone (turn_deeds bench steps caller wanted)
-turn_open bench steps caller wanted = unless_open (begin_fault bench caller wanted) _ (whole_open bench steps caller wanted)
-
-behind_open : (number : Result ℕ TurnEnd) (later : ℕ → Deeds) → ((number : ℕ) → CloseNone (later number)) → CloseNone (behind number later)
-behind_open (Ok number) later is = is number
-behind_open (Err ended) later is = tt
-
-take_open : (receiver : ℕ) (bench : BenchState) (steps : ℕ) → CloseNone (take_deeds receiver bench steps)
-unfolding take_deeds
-take_open receiver bench steps =
-    let taken = turn_call bench steps receiver wish.Take in
-    then_open (turn_deeds bench steps receiver wish.Take) (behind taken.number (λ number. turn_deeds taken.bench taken.steps receiver (wish.Give number))) (turn_open bench steps receiver wish.Take)
-    (behind_open taken.number _ (λ number. turn_open taken.bench taken.steps receiver (wish.Give number)))
-
-one_open : (sender receiver number : ℕ) (bench : BenchState) (steps : ℕ) → CloseNone (one_deeds sender receiver number bench steps)
-unfolding one_deeds
-one_open sender receiver number bench steps =
-    let sends = wish.Send (turn_message number) in
-    let sent = turn_call bench steps sender sends in
-    then_open (turn_deeds bench steps sender sends) (behind sent.number (λ _. take_deeds receiver sent.bench sent.steps)) (turn_open bench steps sender sends)
-    (behind_open sent.number _ (λ _. take_open receiver sent.bench sent.steps))
-
-made_open : (bench : BenchState) (steps caller : ℕ) (made : How) (wanted : Wish) → CloseNone (made_deeds bench steps caller made wanted)
-made_open bench steps caller how.Whole wanted = whole_open bench steps caller wanted
-made_open bench steps caller how.Begun wanted = tt
-
 caller_open : (end : End) (number : Option ℕ) → CloseNone (caller_deeds end number)
 caller_open end (Some number) = (tt, tt)
 caller_open end None = tt
@@ -108,29 +72,22 @@ reclaim_open caller (Some end) None = (tt, tt)
 reclaim_open caller (Some end) (Some why) = tt
 reclaim_open caller None why = tt
 
-module _ {W : Type 0} (sees : Seeing W) where
-  pump_open : (count done sender receiver : ℕ) (bench : BenchState) (watcher : W) (steps : ℕ) → CloseNone (pump_deeds sees count done sender receiver bench watcher steps)
-  unfolding pump_deeds
-  pump_open zero done sender receiver bench watcher steps = tt
-  pump_open (suc more) done sender receiver bench watcher steps =
-      let turn = one_turn sees sender receiver done bench watcher steps in
-      let later = pump_deeds sees more (done + 1) sender receiver turn.bench turn.watcher turn.steps in
-      then_open (one_deeds sender receiver done bench steps) (if is_whole turn.ended then later else no_deeds) (one_open sender receiver done bench steps)
-      (either_open (is_whole turn.ended) later no_deeds
-      (pump_open more (done + 1) sender receiver turn.bench turn.watcher turn.steps) tt)
+part_open : (bench : BenchState) (part : ActPart) → CloseNone (part_deeds bench part)
+part_open bench (Joins end) = caller_open end (free_number (link_in bench).callers)
+part_open bench (Begins caller wanted) = tt
+part_open bench (Calls steps caller wanted) = whole_open bench steps caller wanted
+part_open bench (Advances more steps caller) = advance_open bench more steps caller (begun_call_of bench caller)
+part_open bench (Sees caller came) = tt
+part_open bench (Reclaims caller) = reclaim_open caller (end_of (link_in bench).callers caller) (link_reclaim_refusal (link_in bench) caller)
 
-  free_open : (bench : BenchState) (watcher : W) (steps : ℕ) (asked : LinkAct (List ℕ)) → CloseNone (free_deeds sees bench watcher steps asked)
-  free_open bench watcher steps (act.Caller end) = caller_open end (free_number (link_in bench).callers)
-  free_open bench watcher steps (act.Call caller made wanted) =
-      unless_open (ready_fault bench caller) _ (unless_open (misfit bench caller wanted) _ (made_open bench steps caller made (wish_of wanted)))
-  free_open bench watcher steps (act.Step caller more) = unless_open (step_fault bench caller) _ (advance_open bench more steps caller (begun_call_of bench caller))
-  free_open bench watcher steps (act.Pump sender receiver count) = unless_open (pump_refusal bench sender receiver) _ (pump_open count 0 sender receiver bench watcher steps)
-  free_open bench watcher steps (act.Reclaim caller) = reclaim_open caller (end_of (link_in bench).callers caller) (link_reclaim_refusal (link_in bench) caller)
+parts_open : (bench : BenchState) (parts : List ActPart) → CloseNone (parts_deeds bench parts)
+parts_open bench [] = tt
+parts_open bench (part ∷ parts) = then_open (part_deeds bench part) (parts_deeds (bench_after bench part) parts) (part_open bench part) (parts_open (bench_after bench part) parts)
 
-  -- no act of callers closes a link
-  pub act_open : (own : ℕ) (bench : BenchState) (watcher : W) (steps : ℕ) (asked : LinkAct (List ℕ)) → CloseNone (act_deeds sees own bench watcher steps asked)
-  unfolding act_deeds
-  act_open own bench watcher steps asked = unless_open (own_in bench own asked) (free_deeds sees bench watcher steps asked) (free_open bench watcher steps asked)
+-- no act of callers closes a link
+pub act_open : {W : Type 0} (sees : Seeing W) (own : ℕ) (bench : BenchState) (watcher : W) (steps : ℕ) (asked : LinkAct (List ℕ)) → CloseNone (act_deeds sees own bench watcher steps asked)
+unfolding act_deeds
+act_open sees own bench watcher steps asked = parts_open bench (act_parts sees own bench watcher steps asked)
 
 -- nor does a step of an actor on the link
 link_open : (bench : BenchState) (caller : ℕ) (wanted : Wish) → CloseNone (link_deeds bench caller wanted)

@@ -2,16 +2,19 @@
 use Rattle.std.proofs.Common.{◌≡◌, ℕ, true, List, Option, Some, None, slice_get, refl}
 use Rattle.lane_model.specs.Conditions.{is_calling}
 use Rattle.link_bench.specs.declared.acts.LinkAct.{LinkAct}
-use Rattle.link_bench.specs.declared.acts.LinkAct.TheVariants as act
 use Rattle.link_bench.specs.declared.benches.BegunCall.{BegunCall}
+use Rattle.link_bench.specs.ActParts.{ActPart, bench_after}
 use Rattle.link_bench.specs.Acts.{IsFitAct, link_act}
-use Rattle.link_bench.specs.Benches.{BenchState, begun_call_of, is_in_call, link_in}
+use Rattle.link_bench.specs.Benches.{BenchState, IsSendable, begun_call_of, is_in_call, link_in}
 use Rattle.link_bench.specs.Watchers.{Seeing}
+use Rattle.link_bench.proofs.ActParts.{Does, Done, Then}
+use Rattle.link_bench.proofs.ActWalks.{act_done}
 use Rattle.core_laws.specs.BenchMoves.{IsReachedBench}
 use Rattle.core_laws.proofs.BenchMoves.{begun_at, begun_or, calling_may, reclaimable_is_shut}
+use Rattle.core_laws.proofs.CoreActs.{part_reached}
 use Rattle.core_laws.proofs.SendableActs.{calls_sendable}
-use Rattle.act_laws.specs.Deeds.{act_deeds}
-use Rattle.act_laws.proofs.ActLands.{FitSends, LandsAt, MayAct, MayGo, act_lands}
+use Rattle.act_laws.specs.Deeds.{act_deeds, part_deeds, parts_deeds}
+use Rattle.act_laws.proofs.ActLands.{LandsAt, MayAct, MayGo, part_lands, stays, then_at}
 
 -- ---- what a reached bench allows
 
@@ -25,14 +28,19 @@ may_act bench reached = record {
   shut = λ caller none. reclaimable_is_shut (link_in bench) caller none;
 }
 
-pub sends_fit : (asked : LinkAct (List ℕ)) → IsFitAct asked → FitSends asked
-sends_fit (act.Caller end) fit = tt
-sends_fit (act.Call caller made wanted) fit = calls_sendable (act.Call caller made wanted) fit
-sends_fit (act.Step caller more) fit = tt
-sends_fit (act.Pump sender receiver count) fit = λ number. (calls_sendable (act.Pump sender receiver count) fit number).0
-sends_fit (act.Reclaim caller) fit = tt
+-- ---- the deeds of an act
 
--- the deeds of an act on a reached bench
-pub deeds_land : {W : Type 0} (sees : Seeing W) (own : ℕ) (bench : BenchState) (watcher : W) (steps : ℕ) (asked : LinkAct (List ℕ)) → IsFitAct asked → IsReachedBench bench
-    → LandsAt bench (act_deeds sees own bench watcher steps asked) (link_act sees own bench watcher steps asked).bench
-deeds_land sees own bench watcher steps asked fit reached = act_lands sees bench watcher steps (may_act bench reached) own asked (sends_fit asked fit)
+module _ {W : Type 0} (sees : Seeing W) (own : ℕ) where
+  -- the deeds of parts, each of which may be done
+  parts_land : {bench left : BenchState} {watcher seen : W} {parts : List ActPart} → Does sees own IsSendable bench watcher parts left seen → IsReachedBench bench
+      → LandsAt bench (parts_deeds bench parts) left
+  parts_land (Done {bench = bench}) reached = stays bench
+  parts_land {left = left} (Then {bench = bench} {watcher = watcher} {part = part} {parts = parts} may rest) reached =
+      then_at bench (part_deeds bench part) (bench_after bench part) (parts_deeds (bench_after bench part) parts) left
+      (part_lands bench (may_act bench reached) own part may) (parts_land rest (part_reached sees own bench watcher part may reached))
+
+  -- the deeds of an act on a reached bench
+  pub deeds_land : (bench : BenchState) (watcher : W) (steps : ℕ) (asked : LinkAct (List ℕ)) → IsFitAct asked → IsReachedBench bench
+      → LandsAt bench (act_deeds sees own bench watcher steps asked) (link_act sees own bench watcher steps asked).bench
+  unfolding act_deeds
+  deeds_land bench watcher steps asked fit reached = parts_land (act_done sees own IsSendable bench watcher steps asked (calls_sendable asked fit)).does reached

@@ -12,7 +12,8 @@ use Rattle.link_bench.specs.declared.acts.LinkAct.TheVariants as act
 use Rattle.link_bench.specs.Benches.{BenchState, IsSendable}
 use Rattle.link_bench.specs.Turns.{turn_message}
 use Rattle.link_bench.specs.Acts.{IsFitAct, IsFitWish, misfit, wish_of}
-use Rattle.crash_recover.proofs.KeptActs.{FitCalls, holds}
+use Rattle.link_bench.proofs.ActWalks.{FitCalls}
+use Rattle.link_bench.proofs.Begun.{held_from}
 use Rattle.core_laws.proofs.Sendable.{header_length}
 
 header_sendable : (source destination : ℕ) (payload : List ℕ) → length payload ≤ PAYLOAD_MOST → IsSendable (wish.Send (header_bytes source destination payload))
@@ -23,7 +24,7 @@ header_sendable source destination payload short =
 sendable : (bench : BenchState) (caller : ℕ) (wanted : CallWish (List ℕ)) → IsFitWish wanted → misfit bench caller wanted ≡ None → IsSendable (wish_of wanted)
 sendable bench caller (call.Send source destination payload) fit none =
     header_sendable source destination payload
-    (leb-true _ _ (holds (nat_le (length payload) PAYLOAD_MOST) (answer.TooLong caller (length payload)) none))
+    (leb-true _ _ (held_from (nat_le (length payload) PAYLOAD_MOST) (answer.TooLong caller (length payload)) none))
 sendable bench caller (call.Raw message) fit none = fit
 sendable bench caller call.Take fit none = tt
 sendable bench caller (call.Give number) fit none = tt

@@ -21,12 +21,13 @@ use Rattle.crash_recover.specs.CoreRecoveries.{after_recovery, core_to_reopen, r
 use Rattle.crash_recover.specs.Cores.{CoreState, IsKeptCore, LoadState}
 use Rattle.core_actors.specs.ActorSteps.{link_step}
 use Rattle.link_bench.specs.declared.acts.LinkAct.{LinkAct}
-use Rattle.link_bench.specs.declared.acts.LinkAct.TheVariants as act
+use Rattle.link_bench.specs.ActParts.{Advances, Begins, Calls, Joins, Reclaims, Sees}
 use Rattle.link_bench.specs.Acts.{link_act}
+use Rattle.link_bench.proofs.ActParts.{KeptByParts}
+use Rattle.link_bench.proofs.ActWalks.{AnyWish, act_kept, any_calls}
 use Rattle.core_actors.specs.Actors.{ActorsState}
 use Rattle.core_actors.specs.ActorEnds.{actors_after_end}
 use Rattle.crash_recover.specs.KeptCores.{IsKeptBench}
-use Rattle.crash_recover.proofs.KeptActs.{AreKeptSteps, FitCalls, act_kept}
 use Rattle.crash_recover.proofs.KeptCrashes.{gone_kept, host_renewed}
 use Rattle.crash_recover.proofs.KeptLinks.{advance_kept, start_kept, whole_kept}
 use Rattle.crash_recover.proofs.Restarts.{unspent}
@@ -141,29 +142,16 @@ step_kept life bench caller wanted is =
     cond_both (is_in_call bench caller) (advance_walk bench 0 0 caller) (start_walk bench 0 caller wanted) (λ (walk : BenchWalk). IsKeptBench life walk.bench)
     (λ _. advance_kept life bench 0 0 caller is) (λ _. start_kept life bench 0 caller wanted is)
 
--- nothing is asked of what a call wishes
-abbrev AnyWish : Wish → Type 0
-AnyWish wanted = Unit {0}
-
-any_calls : (asked : LinkAct (List ℕ)) → FitCalls AnyWish asked
-any_calls (act.Caller end) = tt
-any_calls (act.Call caller made wanted) = λ bench none. tt
-any_calls (act.Step caller more) = tt
-any_calls (act.Pump sender receiver count) = λ number. (tt, tt, tt)
-any_calls (act.Reclaim caller) = tt
-
-kept_steps : (life : CoreLife) → AreKeptSteps actors_after_end 2 AnyWish (λ bench actors. IsKeptBench life bench)
-kept_steps life = record {
-  joined = λ bench actors end is. caller_kept life bench end is;
-  begun = λ bench actors caller wanted other ready fit is. is;
-  called = λ bench actors steps caller wanted other ready fit is. whole_kept life bench steps caller wanted is;
-  advanced = λ bench actors more steps caller other in_call is. advance_kept life bench more steps caller is;
-  reclaimed = λ bench actors caller other is. reclaim_kept life bench caller (omega (arith, other)) is;
-  seen = λ bench actors caller end is. is;
-}
+kept_part : (life : CoreLife) → KeptByParts actors_after_end 2 AnyWish (λ bench actors. IsKeptBench life bench)
+kept_part life bench actors (Joins end) may is = caller_kept life bench end is
+kept_part life bench actors (Begins caller wanted) may is = is
+kept_part life bench actors (Calls steps caller wanted) may is = whole_kept life bench steps caller wanted is
+kept_part life bench actors (Advances more steps caller) may is = advance_kept life bench more steps caller is
+kept_part life bench actors (Sees caller came) may is = is
+kept_part life bench actors (Reclaims caller) may is = reclaim_kept life bench caller (omega (arith, may)) is
 
 -- an act for others than the core's own callers
 pub act_keeps : (life : CoreLife) (bench : BenchState) (actors : ActorsState) (steps : ℕ) (asked : LinkAct (List ℕ)) → IsKeptBench life bench
     → IsKeptBench life (link_act actors_after_end 2 bench actors steps asked).bench
 act_keeps life bench actors steps asked is =
-    act_kept actors_after_end 2 AnyWish (λ after watcher. IsKeptBench life after) (kept_steps life) bench actors steps asked (any_calls asked) is
+    act_kept actors_after_end 2 AnyWish bench actors steps (λ after watcher. IsKeptBench life after) (kept_part life) asked (any_calls asked) is

@@ -14,6 +14,5 @@ pub mod BootLives
 pub mod SameLives
 pub mod KeptLinks
 pub mod KeptCrashes
-pub mod KeptActs
 pub mod KeptBenches
 pub mod SoundCores

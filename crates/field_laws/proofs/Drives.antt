@@ -10,13 +10,14 @@ use Rattle.remote_core.specs.declared.workers.Work.{Work}
 use Rattle.remote_core.specs.declared.workers.Work.TheVariants as work
 use Rattle.remote_core.specs.Works.{work_of}
 use Rattle.lane_model.specs.declared.calls.Wish.{Wish}
-use Rattle.lane_model.specs.Links.{free_number}
-use Rattle.lane_model.specs.Recoveries.{link_reclaim_refusal}
 use Rattle.link_bench.specs.declared.acts.LinkAct.{LinkAct}
 use Rattle.link_bench.specs.declared.benches.Reach.{Reach}
 use Rattle.link_bench.specs.declared.benches.Reach.TheVariants as reach
+use Rattle.link_bench.specs.ActParts.{ActPart, Sees, watcher_after_part}
 use Rattle.link_bench.specs.Acts.{Acted, IsFitAct}
-use Rattle.link_bench.specs.Benches.{BenchState, IsSendable, advance_walk, is_in_call, link_in, start_walk}
+use Rattle.link_bench.specs.Benches.{BenchState, IsSendable, advance_walk, is_in_call, start_walk}
+use Rattle.link_bench.proofs.ActParts.{KeptByParts}
+use Rattle.link_bench.proofs.ActWalks.{act_kept}
 use Rattle.core_actors.specs.declared.progress.Driven.{Driven}
 use Rattle.core_actors.specs.declared.progress.Driven.TheVariants as driven
 use Rattle.core_actors.specs.Actors.{ActorsState}
@@ -24,18 +25,16 @@ use Rattle.core_actors.specs.ActorEnds.{actors_after_end}
 use Rattle.core_actors.specs.ActorSteps.{drive_of_reach, drive_of_work, first_or_take, host_at_step, link_step}
 use Rattle.crash_recover.specs.CoreActs.{act_on_core, core_after_act}
 use Rattle.crash_recover.specs.Cores.{CoreState, LoadState}
-use Rattle.crash_recover.specs.Drives.{DriveStep, closed_by, core_with_report, drive_step, driven_with_report, host_step, placed_map, worker_call}
+use Rattle.crash_recover.specs.Drives.{DriveStep, closed_by, core_with_report, drive_step, driven_with_report, host_step, placed_map, run_by, step_with_report, worker_call}
 use Rattle.core_laws.specs.BenchMoves.{IsReachedBench, IsReachedCore}
 use Rattle.core_laws.proofs.CoreMoves.{first_sendable, reached_parts}
-use Rattle.core_laws.proofs.DriveWalks.{MayGoOn, HoldOfParts, drive_walk, of_link}
-use Rattle.crash_recover.proofs.KeptActs.{AreKeptSteps, act_kept}
-use Rattle.core_laws.proofs.BenchMoves.{advanced, begun_reached, enlisted, reclaim_tried}
+use Rattle.core_laws.proofs.DriveWalks.{HoldOfParts, MayGoOn, drive_walk, of_link}
 use Rattle.field_laws.specs.Fields.{IsFieldWish}
 use Rattle.field_laws.specs.FieldBenches.{IsFieldAct, IsFieldActed, IsFieldBench, IsFieldReach}
 use Rattle.field_laws.specs.FieldCores.{AreFieldCalls, IsFieldCore, IsFieldCrash, IsFieldDriven, IsFieldLoad, IsFieldPlaced}
 use Rattle.field_laws.proofs.Actors.{first_fields, host_begun_fields, host_fields, memory_fields, ran_fields, seen_fields, worker_fields}
-use Rattle.field_laws.proofs.Acts.{HoldsBench, IsFit, act_told, call_holds, fit_calls, ready_wish}
-use Rattle.field_laws.proofs.Benches.{HoldsBenchWalk, advance_fields, begun_fields, caller_fields, start_fields, tried_fields}
+use Rattle.field_laws.proofs.Acts.{HoldsBench, IsFit, act_told, fit_calls, part_holds}
+use Rattle.field_laws.proofs.Benches.{HoldsBenchWalk, advance_fields, start_fields}
 use Rattle.field_laws.proofs.Cores.{report_fields}
 use Rattle.field_laws.proofs.Rooms.{memory_longer}
 
@@ -171,26 +170,12 @@ pub record HoldsBoth (bench : BenchState) (actors : ActorsState) : Type 0 where
   pub holds : HoldsBench bench
   pub calls : AreFieldCalls actors
 
-both_steps : AreKeptSteps actors_after_end 2 IsFit HoldsBoth
-both_steps = record {
-  joined = λ bench actors end is.
-      record { holds = record { reached = enlisted bench end is.holds.reached; fields = caller_fields bench end (free_number (link_in bench).callers) is.holds.fields }; calls = is.calls };
-  begun = λ bench actors caller wanted other ready fit is. record {
-    holds = record {
-      reached = begun_reached bench caller (record { follows = (link_in bench).era.inc; wish = wanted }) is.holds.reached ready fit.0;
-      fields = begun_fields bench caller wanted (ready_wish bench caller wanted is.holds ready fit) is.holds.fields;
-    };
-    calls = is.calls;
-  };
-  called = λ bench actors steps caller wanted other ready fit is. record { holds = call_holds bench steps caller wanted is.holds ready fit; calls = is.calls };
-  advanced = λ bench actors more steps caller other in_call is. record {
-    holds = record { reached = advanced bench more steps caller is.holds.reached in_call; fields = (advance_fields bench more steps caller in_call is.holds.reached is.holds.fields).bench };
-    calls = is.calls;
-  };
-  reclaimed = λ bench actors caller other is.
-      record { holds = record { reached = reclaim_tried bench caller is.holds.reached; fields = tried_fields bench caller (link_reclaim_refusal (link_in bench) caller) is.holds.fields }; calls = is.calls };
-  seen = λ bench actors caller end is. record { holds = is.holds; calls = seen_fields actors bench caller end is.holds.fields.link is.calls };
-}
+part_calls : (bench : BenchState) (actors : ActorsState) (part : ActPart) → HoldsBench bench → AreFieldCalls actors → AreFieldCalls (watcher_after_part actors_after_end bench actors part)
+part_calls bench actors (Sees caller (reach.Ended ended)) holds is = seen_fields actors bench caller ended holds.fields.link is
+part_calls bench actors other holds is = is
+
+both_part : KeptByParts actors_after_end 2 IsFit HoldsBoth
+both_part bench actors part may is = record { holds = part_holds actors_after_end 2 bench actors part may is.holds; calls = part_calls bench actors part is.holds is.calls }
 
 -- what an act leaves of a core, the link that it leaves, and what comes of it
 pub record HoldsActed (core : CoreState) (acted : Acted ActorsState) : Type 0 where
@@ -202,7 +187,7 @@ pub core_act_fields : (core : CoreState) (bench : BenchState) (steps : ℕ) (ask
     → HoldsActed core (act_on_core core bench steps asked)
 core_act_fields core bench steps asked fit fields reached here is =
     let holds : HoldsBench bench = record { reached = reached; fields = here } in
-    let left = act_kept actors_after_end 2 IsFit HoldsBoth both_steps bench core.actors steps asked (fit_calls asked fit fields) (record { holds = holds; calls = is.calls }) in
+    let left = act_kept actors_after_end 2 IsFit bench core.actors steps HoldsBoth both_part asked (fit_calls asked fit fields) (record { holds = holds; calls = is.calls }) in
     record {
       left = record { book = is.book; life = is.life; image = is.image; loaded = is.loaded; placed = is.placed; rest = is.rest; bench = left.holds.fields; calls = left.calls };
       bench = left.holds.fields;

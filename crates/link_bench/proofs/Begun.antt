@@ -20,7 +20,7 @@ pub some_same : {A : Type 0} {x y : A} → Some x ≡ Some y → x ≡ y
 some_same {A} {x} {y} same = ap (λ found. unwrap_or found x) same
 
 -- no fault where there is one
-some_fault : {A : Type 0} (found : A) → Some found ≡ None → ⊥
+pub some_fault : {A : Type 0} (found : A) → Some found ≡ None → ⊥
 some_fault found same = true≢false (ap is_some same)
 
 -- no first fault of two is no fault of each
@@ -35,7 +35,7 @@ not_calling false true same = absurd (some_fault _ same)
 not_calling true under_way same = absurd (some_fault _ same)
 
 -- a test that refuses nothing holds
-held_from : (held : Bool) (why : BenchFault) → cond held None (Some why) ≡ None → held ≡ true
+pub held_from : {A : Type 0} (held : Bool) (why : A) → cond held None (Some why) ≡ None → held ≡ true
 held_from true why same = refl
 held_from false why same = absurd (some_fault why same)
 

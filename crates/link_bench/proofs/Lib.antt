@@ -10,3 +10,6 @@ pub mod CrashWalks
 pub mod BenchMay
 pub mod BenchSteps
 pub mod Cuts
+pub mod ActParts
+pub mod ActAnswers
+pub mod ActWalks

@@ -6,3 +6,4 @@ pub mod BenchCrashes
 pub mod BenchEnds
 pub mod Watchers
 pub mod Acts
+pub mod ActParts

@@ -47,7 +47,7 @@ use Rattle.way_laws.specs.CoreAccounts.{core_act_deeds}
 use Rattle.way_laws.specs.WordedTakes.{AreLinesOfTakes, ComesFromOpening, IsLineOfTake, is_take_line}
 use Rattle.way_laws.proofs.DrivenTakes.{drive_told}
 use Rattle.way_laws.proofs.DrivenWords.{DrivenTakesOne, drive_once}
-use Rattle.way_laws.proofs.Worded.{AnswerHas, IsNoTakeEnd, IsWordedReach, answer_worded, reach_worded}
+use Rattle.way_laws.proofs.Worded.{IsNoTakeEnd, IsWordedAnswer, IsWordedReach, answer_worded, reach_worded}
 
 module _ (name : List ℕ) (deeds : Deeds) where
   -- an event, if it is the line of a take, is that of a handing that is told
@@ -114,7 +114,7 @@ module _ (name : List ℕ) (deeds : Deeds) where
   reclaim_lines caller (reclaim.StillOpen era) = no_lines _ refl
   reclaim_lines caller (reclaim.Busy holder) = no_lines _ refl
 
-  answer_lines : (link : LinkState EndState) (told : ActAnswer) → AnswerHas IsWordedReach IsNoTakeEnd link deeds told → AreLines (answer_events name link told)
+  answer_lines : (link : LinkState EndState) (told : ActAnswer) → IsWordedAnswer link deeds told → AreLines (answer_events name link told)
   answer_lines link (answer.Caller number end) has = no_lines _ refl
   answer_lines link answer.CallersFull has = no_lines _ refl
   answer_lines link (answer.Refused caller why) has = (fault_lines caller why, tt)
