@@ -1,5 +1,5 @@
 -- Steps of a core's actors, and acts on its link, keep the numbers and bytes of the core within their types.
-use Rattle.std.proofs.Common.{◌≡◌, ℕ, ◌<◌, ◌^◌, true, List, Option, Some, IfSome, is_some, Result, Ok, Err, IfOk, sym, ap, ◌∙◌, arith}
+use Rattle.std.proofs.Common.{◌≡◌, ℕ, ◌<◌, ◌^◌, true, List, Option, Some, IfSome, is_some, Result, Ok, Err, IfOk, sym, ap, subst, ◌∙◌, arith}
 use Rattle.proc_state.specs.declared.answers.LifeFault.{LifeFault}
 use Rattle.crash_recover.specs.declared.core_answers.Crash.{Crash}
 use Rattle.crash_recover.specs.declared.core_answers.Crash.TheVariants as crash
