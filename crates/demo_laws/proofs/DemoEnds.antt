@@ -1,5 +1,5 @@
 -- A demo never meets the limit of steps, where the actors of each of its cores come to rest within so many.
-use Rattle.std.proofs.Common.{◌≡◌, ◌⊎◌, inl, inr, ◌<◌, ◌≤◌, ℕ, zero, suc, ◌+◌, ◌*◌, ◌==◌, Bool, true, false, cond, ltb, List, [], ◌∷◌, ◌++◌, All, length, Option, Some, None, IfSome, Result, Ok, Err, slice_get, is_some, refl, sym, ap, subst, ◌∙◌, arith}
+use Rattle.std.proofs.Common.{◌≡◌, ◌⊎◌, inr, ⊎_elim, ◌<◌, ◌≤◌, ℕ, zero, suc, ◌+◌, ◌*◌, ◌==◌, Bool, true, false, cond, ltb, List, [], ◌∷◌, ◌++◌, All, length, Option, Some, None, IfSome, Result, Ok, Err, slice_get, is_some, refl, sym, ap, subst, ◌∙◌, arith}
 use Rattle.std.proofs.lemmas.Bool.{cond_both, true≢false}
 use Rattle.std.proofs.lemmas.List.Elements.{All-nil, All-push, All-set}
 use Rattle.rp_base.specs.declared.kinds.DriverKind.{DriverKind}
@@ -28,15 +28,15 @@ use Rattle.crash_recover.specs.declared.core_answers.Start.{Start}
 use Rattle.crash_recover.specs.declared.core_answers.Start.TheVariants as start
 use Rattle.link_bench.specs.BenchHolds.{caller_out}
 use Rattle.crash_recover.specs.Cores.{CoreOutcome, CoreState, driver_add_fault, refuse_or, IsKeptCore}
-use Rattle.crash_recover.specs.Drives.{drive_step, is_idle, placed_map}
-use Rattle.command_run.specs.CoreDrives.{drive_effect, drive_steps, is_crashed, rest_event, rests_or, step_then}
+use Rattle.crash_recover.specs.Drives.{drive_step, placed_map}
+use Rattle.command_run.specs.CoreDrives.{drive_effect, drive_steps, is_crashed}
 use Rattle.command_run.specs.CoreEffects.{CoreEffect, core_tells, core_tells_all}
-use Rattle.command_run.specs.CoreLives.{core_stops, found_image, found_or_told, image_bytes, leave_effect, may_step, shutdown_effect, started_effect}
+use Rattle.command_run.specs.CoreLives.{found_image, found_or_told, image_bytes, leave_effect, may_step, shutdown_effect, started_effect}
 use Rattle.command_run.specs.NamedCores.{NamedCoreState}
 use Rattle.command_run.specs.NamedImages.{ImageState}
 use Rattle.std.proofs.Common.{◌-◌, not, bytes_eq, option_map, option_and_then, nat_le}
 use Rattle.std.specs.Prelude.{find}
-use Rattle.std.proofs.lemmas.Bool.{eqb-true, leb-true, ne_eqb}
+use Rattle.std.proofs.lemmas.Bool.{leb-true, ne_eqb}
 use Rattle.std.proofs.lemmas.List.{append_assoc, append-nil}
 use Rattle.std.proofs.lemmas.List.Elements.{All-head, All-tail}
 use Rattle.rp_base.specs.declared.kinds.Switch.{Switch}
@@ -56,7 +56,6 @@ use Rattle.link_commands.specs.declared.acts.Making.TheVariants as making
 use Rattle.link_commands.specs.declared.acts.NamedAct.{NamedAct}
 use Rattle.link_commands.specs.declared.acts.NamedAct.TheVariants as under
 use Rattle.command_run.specs.CoreCommands.{core_act_effect, core_effect, driver_effect_unless, driver_effect}
-use Rattle.command_run.specs.CoreDrives.{step_events, effect_behind}
 use Rattle.link_commands.specs.LinkCommands.{link_effect}
 use Rattle.link_commands.specs.NamedLinks.{NamedLink}
 use Rattle.command_run.specs.Stores.{store_of}
@@ -64,7 +63,9 @@ use Rattle.script_run.specs.Demos.{bare_effect}
 use Rattle.command_run.specs.Runs.{ObjectsState, Run, RunEffect, RunState, effect_by_core_place, core_made_effect, core_place, effect_of, effect_of_core, effect_of_link, has_image, image_effect, is_full, effect_by_link_place, name_effect, new_run, place_of, quiet_effect, run_from, run_of, run_tells, unnamed_effect, with_image, without_link_effect}
 use Rattle.script_run.proofs.DemoSums.{bare_is, goes_on as goes_on_run, script_runnable}
 use Rattle.command_run.proofs.RunSteps.{run_none}
+use Rattle.run_laws.specs.Drives.{after_steps, drive_made, rests}
 use Rattle.run_laws.proofs.RunWalks.{item_at}
+use Rattle.run_laws.proofs.ScriptDrives.{awake, drive_as, steps_keep}
 use Rattle.fw_load.specs.Loading.{Loads, load_fault}
 use Rattle.remote_core.specs.Workers.{WorkerState, new_worker}
 use Rattle.script_lang.specs.Runnable.{AreRunnable}
@@ -129,10 +130,6 @@ module _ (Fits : WorkerState → Type 0) (records credit : WorkerState → ℕ) 
 
   -- ---- drives
 
-  rested : (core : CoreState) (steps within : ℕ) (found : Option Event) (effect : CoreEffect) → IsCalm core → (found ≡ None → LeavesCalm steps within effect) → LeavesCalm steps within (rests_or core steps found effect)
-  rested core steps within None effect is rest = rest refl
-  rested core steps within (Some told) effect is rest = told_calm core steps within (told ∷ []) is
-
   -- more steps are enough too
   more_within : (core : CoreState) (within most : ℕ) → within ≤ most → DrivesWithin core within → DrivesWithin core most
   more_within core within most less is = record {
@@ -146,58 +143,47 @@ module _ (Fits : WorkerState → Type 0) (records credit : WorkerState → ℕ) 
     on = more_on Fits records credit core.actors core.bench within most less is.on;
   }
 
-  goes_on : (name : List ℕ) (core : CoreState) (crashed idle : Bool)
-      → cond crashed (Some (event.Stopped name)) (cond idle (Some (event.Idle name)) None) ≡ None → idle ≡ false
-  goes_on name core true idle none = absurd (true≢false (ap is_some none))
-  goes_on name core false true none = absurd (true≢false (ap is_some none))
-  goes_on name core false false none = refl
+  -- a drive that ends with the step of this number, or before
+  module _ (last : ℕ) where
+    -- a core with the standard regions that has crashed, or whose actors make no more steps than are left until then
+    record GoesWithin (core : CoreState) (steps : ℕ) : Type 0 where
+      pub regions : core.regions ≡ standard_regions
+      pub few : steps ≤ last
+      pub came : (core.life.state ≡ Crashed) ⊎ ((core.life.state ≡ Running) × DrivesWithin core (last - steps))
 
-  crashed_rests : (count : ℕ) (name : List ℕ) (is_quiet : Bool) (core : CoreState) (steps : ℕ) → core.regions ≡ standard_regions → core.life.state ≡ Crashed
-      → LeavesCalm steps 0 (drive_steps count name is_quiet core steps)
-  unfolding drive_steps
-  crashed_rests zero name is_quiet core steps same crashed = record { calm = record { regions = same; own = ap is_own crashed; runs = λ running. absurd (true≢false (ap is_crashed (sym crashed ∙ running))) }; ending = refl; steps = omega arith }
-  crashed_rests (suc more) name is_quiet core steps same crashed =
-      subst (λ (found : Option Event). LeavesCalm steps 0 (rests_or core steps found (cond (steps == STEPS_MOST) (core_stops core steps)
-      (step_then name is_quiet (drive_step core) (λ next. drive_steps more name is_quiet next (steps + 1))))))
-      (sym (ap (λ (b : Bool). cond b (Some (event.Stopped name)) (cond (is_idle core) (Some (event.Idle name)) None)) (ap is_crashed crashed)))
-      (record { calm = record { regions = same; own = ap is_own crashed; runs = λ running. absurd (true≢false (ap is_crashed (sym crashed ∙ running))) }; ending = refl; steps = omega arith })
+    calm_within : (core : CoreState) (steps : ℕ) → last - steps ≤ 7999 → GoesWithin core steps → IsCalm core
+    calm_within core steps less goes =
+        ⊎_elim (λ crashed. record { regions = goes.regions; own = ap is_own crashed; runs = λ running. absurd (true≢false (ap is_crashed (sym crashed ∙ running))) })
+        (λ runs. record { regions = goes.regions; own = ap is_own runs.0; runs = λ _. more_within core (last - steps) 7999 less runs.1 }) goes.came
 
-  -- what follows a step: the core has crashed, or goes on with fewer steps left
-  after_step : (more : ℕ) (name : List ℕ) (is_quiet : Bool) (next : CoreState) (events : List Event) (steps within : ℕ) (core : CoreState) → steps + within ≤ STEPS_MOST → 1 ≤ within → next.regions ≡ standard_regions
-      → ((next.life.state ≡ Crashed) ⊎ ((next.life.state ≡ Running) × DrivesWithin next (within - 1)))
-      → (next.life.state ≡ Running → DrivesWithin next (within - 1) → steps + 1 + (within - 1) ≤ STEPS_MOST → LeavesCalm (steps + 1) (within - 1) (drive_steps more name is_quiet next (steps + 1)))
-      → LeavesCalm steps within (cond (steps == STEPS_MOST) (core_stops core steps) (effect_behind events (drive_steps more name is_quiet next (steps + 1))))
-  after_step more name is_quiet next events steps within core few some same came later =
-      cond_both (steps == STEPS_MOST) (core_stops core steps) (effect_behind events (drive_steps more name is_quiet next (steps + 1))) (LeavesCalm steps within)
-      (λ full. absurd (omega (arith, few, some, eqb-true steps STEPS_MOST full)))
-      (λ _. then_rests came)
-    where
-      then_rests : ((next.life.state ≡ Crashed) ⊎ ((next.life.state ≡ Running) × DrivesWithin next (within - 1)))
-          → LeavesCalm steps within (effect_behind events (drive_steps more name is_quiet next (steps + 1)))
-      then_rests (inl crashed) =
-          let left = crashed_rests more name is_quiet next (steps + 1) same crashed in
-          record { calm = left.calm; ending = left.ending; steps = omega (arith, left.steps, some) }
-      then_rests (inr goes) =
-          let left = later goes.0 goes.1 (omega (arith, few, some)) in
-          record { calm = left.calm; ending = left.ending; steps = omega (arith, left.steps, some) }
-
-  driven : (count : ℕ) (name : List ℕ) (is_quiet : Bool) (core : CoreState) (steps within : ℕ) → core.regions ≡ standard_regions → core.life.state ≡ Running → DrivesWithin core within → within ≤ 7999
-      → steps + within ≤ STEPS_MOST → LeavesCalm steps within (drive_steps count name is_quiet core steps)
-  unfolding drive_steps
-  driven zero name is_quiet core steps within same running is most few = told_calm core steps within _ (record { regions = same; own = ap is_own running; runs = λ _. more_within core within 7999 most is })
-  driven (suc more) name is_quiet core steps within same running is most few =
-      rested core steps within (rest_event name core) _ (record { regions = same; own = ap is_own running; runs = λ _. more_within core within 7999 most is })
-      (λ none.
-      let step = drive_within Fits records credit core within is running (goes_on name core (is_crashed core.life.state) (is_idle core) none) in
-      after_step more name is_quiet (drive_step core).core (step_events name is_quiet (drive_step core)) steps within core few step.some (step.regions ∙ same) step.came
-      (λ runs there fits. driven more name is_quiet (drive_step core).core (steps + 1) (within - 1) (step.regions ∙ same) runs there (omega (arith, most)) fits))
+    step_within : (core : CoreState) (steps : ℕ) → rests core ≡ false → GoesWithin core steps → GoesWithin (drive_step core).core (steps + 1)
+    step_within core steps on goes =
+        ⊎_elim (λ crashed. absurd (true≢false (sym (ap is_crashed crashed) ∙ (awake core on).0)))
+        (λ runs.
+        let next = (drive_step core).core in
+        let step = drive_within Fits records credit core (last - steps) runs.1 runs.0 (awake core on).1 in
+        let left : (last - steps - 1) ≡ (last - (steps + 1)) = omega arith in record {
+          regions = step.regions ∙ goes.regions;
+          few = omega (arith, step.some);
+          came = subst (λ within. (next.life.state ≡ Crashed) ⊎ ((next.life.state ≡ Running) × DrivesWithin next within)) left step.came;
+        }) goes.came
 
   drive_calm : (name : List ℕ) (is_quiet : Bool) (core : CoreState) (steps count : ℕ) → IsCalm core → steps + 7999 ≤ STEPS_MOST → LeavesCalm steps 7999 (drive_effect name is_quiet core steps count)
   unfolding drive_effect
   drive_calm name is_quiet core steps count is few =
       cond_both (is_up core.life.state) (drive_steps count name is_quiet core steps) (core_tells core steps (event.NotRunning name)) (LeavesCalm steps 7999)
-      (λ up. let there = own_up core.life.state is.own up in driven count name is_quiet core steps 7999 is.regions there (is.runs there) (omega arith) few)
-      (λ _. told_calm core steps 7999 _ is)
+      (λ up. driven (own_up core.life.state is.own up)) (λ _. told_calm core steps 7999 _ is)
+    where
+      driven : core.life.state ≡ Running → LeavesCalm steps 7999 (drive_steps count name is_quiet core steps)
+      driven running =
+          let last = steps + 7999 in
+          let made = drive_made count core steps in
+          let all : 7999 ≡ last - steps = omega arith in
+          let went = steps_keep (GoesWithin last) (step_within last) count core steps
+          (record { regions = is.regions; few = omega arith; came = inr (running, subst (DrivesWithin core) all (is.runs running)) }) in
+          drive_as name is_quiet (LeavesCalm steps 7999) count core steps
+          (record { calm = calm_within last (after_steps made core) (steps + made) (omega arith) went; ending = refl; steps = went.few })
+          (λ less on full. let next = step_within last (after_steps made core) (steps + made) on went in absurd (omega (arith, full, next.few, few)))
 
   -- ---- boots
 

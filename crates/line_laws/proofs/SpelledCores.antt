@@ -1,12 +1,12 @@
 -- What is told of a core is spelled as lines have it.
-use Rattle.std.proofs.Common.{sym, subst, ◌≡◌, ℕ, zero, suc, ◌+◌, ◌<◌, ◌≤◌, ◌^◌, ◌==◌, Bool, true, false, cond, List, [], ◌∷◌, ◌++◌, length, Option, Some, None, IfSome, Result, Ok, Err, unwrap_or, arith, ap, is_some, leb, refl, take}
+use Rattle.std.proofs.Common.{sym, subst, ◌≡◌, ℕ, ◌+◌, ◌<◌, ◌≤◌, ◌^◌, Bool, true, false, cond, List, [], ◌∷◌, ◌++◌, length, Option, Some, None, IfSome, Result, Ok, Err, unwrap_or, arith, ap, is_some, leb, refl, take}
 use Rattle.std.specs.Prelude.{All, bytes_eq, find, nat_le, nat_lt, option_map, slice_get}
 use Rattle.std.specs.List.{slice_index_or}
 use Rattle.std.specs.Option.{option_and_then, option_or}
 use Rattle.std.specs.Result.{IfOk}
 use Rattle.std.proofs.lemmas.Bool.{cond_both, leb-false, true≢false}
 use Rattle.std.proofs.lemmas.List.Elements.{All-append, All-cons, All-map, All-nil, All-head, All-tail, All-take}
-use Rattle.rp_base.specs.declared.limits.TheConstants.{STEPS_MOST, IMAGE_MOST}
+use Rattle.rp_base.specs.declared.limits.TheConstants.{IMAGE_MOST}
 use Rattle.rp_base.specs.declared.kinds.CrashKind.{CrashKind}
 use Rattle.rp_base.specs.declared.kinds.CrashKind.TheVariants as crash_kind
 use Rattle.rp_base.specs.declared.kinds.DriverKind.{DriverKind}
@@ -15,7 +15,7 @@ use Rattle.rp_base.specs.Limits.{ring_capacity}
 use Rattle.rp_io.specs.declared.faults.FetchFault.TheVariants as fetch
 use Rattle.proc_state.specs.declared.answers.LifeFault.{LifeFault}
 use Rattle.proc_state.specs.declared.answers.LifeFault.TheVariants as life
-use Rattle.proc_state.specs.Lives.{is_up, is_offline}
+use Rattle.proc_state.specs.Lives.{is_offline}
 use Rattle.elf_image.specs.declared.faults.ElfFault.{ElfFault}
 use Rattle.elf_image.specs.declared.faults.ElfFault.TheVariants as elf_fault
 use Rattle.elf_image.specs.Faults as elf
@@ -79,7 +79,7 @@ use Rattle.crash_recover.specs.CoreLeaves.{detach_of, shutdown_of}
 use Rattle.crash_recover.specs.CoreRecoveries.{recovery_of}
 use Rattle.crash_recover.specs.CoreRings.{core_ring, pair_bytes, ring_of_lane}
 use Rattle.crash_recover.specs.Cores.{CoreState, LoadState, add_fault, bytes_at, core_memory, driver_add_fault, core_trace, loaded_rings}
-use Rattle.crash_recover.specs.Drives.{drive_step, is_idle}
+use Rattle.crash_recover.specs.Drives.{drive_step}
 use Rattle.core_laws.specs.BenchMoves.{IsReachedBench, IsReachedCore}
 use Rattle.core_laws.proofs.CoreActs.{acted_reached}
 use Rattle.core_laws.proofs.CoreMoves.{core_driven}
@@ -96,15 +96,17 @@ use Rattle.link_commands.specs.declared.acts.StartAct.{StartAct}
 use Rattle.link_commands.specs.declared.acts.StartAct.TheVariants as starts
 use Rattle.link_commands.specs.CallEvents.{end_event}
 use Rattle.command_run.specs.CoreCommands.{add_fault_events, added_effect, core_act_effect, core_effect, driver_effect_unless, driver_effect, recovery_effect, region_effect}
-use Rattle.command_run.specs.CoreDrives.{actor_end_events, drive_effect, drive_steps, driven_events, is_crashed, rest_event, rests_or, step_events, step_then}
+use Rattle.command_run.specs.CoreDrives.{actor_end_events, drive_effect, driven_events, step_events}
 use Rattle.command_run.specs.CoreEffects.{CoreEffect, core_tells}
 use Rattle.crash_recover.specs.CoreCallers.{core_turn_holder}
 use Rattle.command_run.specs.CoreLinks.{core_link_effect, core_ring_events, found_ring_events, found_view_events, link_view_events, shown_ring_events}
-use Rattle.command_run.specs.CoreLives.{booted_image, core_fault_events, core_stops, crash_effect, crash_events, detach_effect, fault_at, found_image, leave_events, life_fault_event, load_fault_event, may_step, report_events, shutdown_effect, start_event, start_events, started_effect, found_or_told, image_bytes}
+use Rattle.command_run.specs.CoreLives.{booted_image, core_fault_events, crash_effect, crash_events, detach_effect, fault_at, found_image, leave_events, life_fault_event, load_fault_event, may_step, report_events, shutdown_effect, start_event, start_events, started_effect, found_or_told, image_bytes}
 use Rattle.command_run.specs.CoreViews.{core_view_events, loaded_table_events, memory_event, shown_memory_event, shown_trace_event, state_event, table_event, table_events, trace_bytes, trace_event}
 use Rattle.command_run.specs.NamedCores.{NamedCoreState}
 use Rattle.command_run.specs.NamedImages.{ImageState}
 use Rattle.command_run.specs.Stores.{Answer}
+use Rattle.run_laws.specs.Drives.{rests}
+use Rattle.run_laws.proofs.ScriptDrives.{drive_keeps, drive_tells, last_is}
 use Rattle.way_laws.proofs.CoreRungs.{IsRung, IsRungCore}
 use Rattle.field_laws.specs.Fields.{AreBytes, IsFieldEnd}
 use Rattle.field_laws.specs.FieldBenches.{IsFieldAct, IsFieldBench}
@@ -558,42 +560,24 @@ module _ (name : List ℕ) (named : IsName name) where
       All-cons IsSpelled (event.WorkerFault name (worker.fault_number why)) (crash_events name crash_kind.Fatal closed) (((named, (worker_number why, tt)), tt)) (crashed_told crash_kind.Fatal closed of)
   driven_told is_quiet found (driven.Crashed kind closed) of reached is = crashed_told kind closed of
 
-  rest_told : (crashed idle : Bool) → IfSome (cond crashed (Some (event.Stopped name)) (cond idle (Some (event.Idle name)) None)) IsSpelled
-  rest_told true idle = ((named, tt), tt)
-  rest_told false true = ((named, tt), tt)
-  rest_told false false = tt
-
-  paused_told : (found : Option Event) → IfSome found IsSpelled → IsSpelled (unwrap_or found (event.Paused name))
-  paused_told None is = ((named, tt), tt)
-  paused_told (Some first) is = is
-
-  rests_spelled : (core : CoreState) (steps : ℕ) (found : Option Event) (effect : CoreEffect) → IsFieldCore core → IfSome found IsSpelled → LeavesSpelled effect → LeavesSpelled (rests_or core steps found effect)
-  rests_spelled core steps None effect is found rest = rest
-  rests_spelled core steps (Some first) effect is found rest = told core steps first is found
-
-  steps_spelled : (count : ℕ) (is_quiet : Bool) (core : CoreState) (steps : ℕ) → IsReachedCore core → IsFieldCore core → LeavesSpelled (drive_steps count name is_quiet core steps)
-  unfolding drive_steps
-  steps_spelled zero is_quiet core steps reached is =
-      told core steps (unwrap_or (rest_event name core) (event.Paused name)) is (paused_told (rest_event name core) (rest_told (is_crashed core.life.state) (is_idle core)))
-  steps_spelled (suc more) is_quiet core steps reached is =
-      let step = drive_step core in
-      let came = core_driven core reached in
-      let holds = drive_fields core reached is in
-      let later = steps_spelled more is_quiet step.core (steps + 1) came holds.core in
-      rests_spelled core steps (rest_event name core) _ is (rest_told (is_crashed core.life.state) (is_idle core))
-      (cond_both (steps == STEPS_MOST) (core_stops core steps) (step_then name is_quiet step (λ next. drive_steps more name is_quiet next (steps + 1))) LeavesSpelled
-      (λ _. record { left = is; events = none })
-      (λ _. record {
-        left = later.left;
-        events = All-append IsSpelled (step_events name is_quiet step) (drive_steps more name is_quiet step.core (steps + 1)).events
-            (driven_told is_quiet step.core.bench step.driven holds.driven came.bench holds.core.bench) later.events;
-      }))
+  -- a core that is reached, whose numbers and bytes are within their types
+  abbrev IsHeld : CoreState → Type 0
+  IsHeld core = IsReachedCore core × IsFieldCore core
 
   drive_spelled : (is_quiet : Bool) (core : CoreState) (steps count : ℕ) → IsReachedCore core → IsFieldCore core → LeavesSpelled (drive_effect name is_quiet core steps count)
-  unfolding drive_effect
-  drive_spelled is_quiet core steps count reached is =
-      cond_both (is_up core.life.state) (drive_steps count name is_quiet core steps) (core_tells core steps (event.NotRunning name)) LeavesSpelled
-      (λ _. steps_spelled count is_quiet core steps reached is) (λ _. told core steps (event.NotRunning name) is (((named, tt), tt)))
+  drive_spelled is_quiet core steps count reached is = record {
+    left = (drive_keeps name is_quiet IsHeld stays core steps count (reached, is)).1;
+    events = drive_tells name is_quiet IsHeld stays IsSpelled tells (λ core. last_is name IsSpelled core (((named, tt), tt)) (((named, tt), tt)) (((named, tt), tt))) (((named, tt), tt)) core steps count (reached, is);
+  }
+    where
+      stays : (core : CoreState) → rests core ≡ false → IsHeld core → IsHeld (drive_step core).core
+      stays core goes held = (core_driven core held.0, (drive_fields core held.0 held.1).core)
+
+      tells : (core : CoreState) → rests core ≡ false → IsHeld core → All IsSpelled (step_events name is_quiet (drive_step core))
+      tells core goes held =
+          let step = drive_step core in
+          let holds = drive_fields core held.0 held.1 in
+          driven_told is_quiet step.core.bench step.driven holds.driven (core_driven core held.0).bench holds.core.bench
 
 -- ---- what is done under the name of a core
 

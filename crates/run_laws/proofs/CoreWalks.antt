@@ -1,14 +1,9 @@
 -- What is done under the name of a core keeps what each change of a core keeps.
-use Rattle.std.proofs.Common.{◌≡◌, inl, ℕ, zero, suc, ◌+◌, ◌==◌, Bool, List, [], ◌∷◌, ◌++◌, Option, Some, None, refl}
-use Rattle.std.proofs.lemmas.Bool.{cond_both}
+use Rattle.std.proofs.Common.{◌≡◌, inl, ℕ, Bool, List, [], ◌∷◌, ◌++◌, Option, Some, None, refl}
 use Rattle.rp_base.specs.declared.kinds.CrashKind.{CrashKind}
 use Rattle.rp_base.specs.declared.kinds.DriverKind.{DriverKind}
 use Rattle.rp_base.specs.declared.kinds.Switch.{Switch}
-use Rattle.rp_base.specs.declared.limits.TheConstants.{STEPS_MOST}
 use Rattle.memory_pool.specs.declared.regions.Region.{Region}
-use Rattle.proc_state.specs.Lives.{is_up}
-use Rattle.journal.specs.declared.events.Event.{Event}
-use Rattle.journal.specs.declared.events.Event.TheVariants as event
 use Rattle.link_bench.specs.declared.acts.LinkAct.{LinkAct}
 use Rattle.link_bench.specs.Benches.{BenchState}
 use Rattle.crash_recover.specs.declared.core_faults.AddFault.{AddFault}
@@ -23,13 +18,13 @@ use Rattle.link_commands.specs.declared.acts.NamedAct.TheVariants as under
 use Rattle.link_commands.specs.declared.acts.StartAct.{StartAct}
 use Rattle.link_commands.specs.declared.acts.StartAct.TheVariants as starts
 use Rattle.command_run.specs.CoreCommands.{added_effect, core_act_effect, core_effect, driver_effect_unless, driver_effect, is_on, recovery_effect, region_effect}
-use Rattle.command_run.specs.CoreDrives.{drive_effect, drive_steps, rest_event, rests_or, step_then}
-use Rattle.command_run.specs.CoreEffects.{CoreEffect, core_tells}
+use Rattle.command_run.specs.CoreEffects.{CoreEffect}
 use Rattle.command_run.specs.CoreLinks.{core_link_effect}
-use Rattle.command_run.specs.CoreLives.{booted_image, core_stops, crash_effect, detach_effect, found_image, may_step, shutdown_effect, started_effect}
+use Rattle.command_run.specs.CoreLives.{booted_image, crash_effect, detach_effect, found_image, may_step, shutdown_effect, started_effect}
 use Rattle.command_run.specs.NamedCores.{NamedCoreState}
 use Rattle.command_run.specs.NamedImages.{ImageState}
 use Rattle.command_run.specs.Stores.{Answer}
+use Rattle.run_laws.proofs.ScriptDrives.{drive_keeps}
 
 -- each change of a core keeps this of it, an act of which this may be known too
 pub record KeepCores (Fits : LinkAct (List ℕ) → Type 0) (C : CoreState → Type 0) : Type 0 where
@@ -102,26 +97,6 @@ module _ (Fits : LinkAct (List ℕ) → Type 0) (C : CoreState → Type 0) (keep
   start_kept (starts.Handover image) images answer on steps is = handover_stays C keep.lives on.core image (found_image images answer image) is
   start_kept starts.Recover images answer on steps is = recovery_stays C keep.lives on.core (found_image images answer (booted_image on.name on.core)) is
 
-  -- ---- drives
-
-  rests : (core : CoreState) (steps : ℕ) (found : Option Event) (effect : CoreEffect) → C core → LeavesCore effect → LeavesCore (rests_or core steps found effect)
-  rests core steps None effect is rest = rest
-  rests core steps (Some told) effect is rest = is
-
-  driven : (count : ℕ) (name : List ℕ) (is_quiet : Bool) (core : CoreState) (steps : ℕ) → C core → LeavesCore (drive_steps count name is_quiet core steps)
-  unfolding drive_steps
-  driven zero name is_quiet core steps is = is
-  driven (suc more) name is_quiet core steps is =
-      rests core steps (rest_event name core) _ is
-      (cond_both (steps == STEPS_MOST) (core_stops core steps) (step_then name is_quiet (drive_step core) (λ next. drive_steps more name is_quiet next (steps + 1))) LeavesCore
-      (λ _. is) (λ _. driven more name is_quiet (drive_step core).core (steps + 1) (keep.drive core is)))
-
-  drive_kept : (name : List ℕ) (is_quiet : Bool) (core : CoreState) (steps count : ℕ) → C core → LeavesCore (drive_effect name is_quiet core steps count)
-  unfolding drive_effect
-  drive_kept name is_quiet core steps count is =
-      cond_both (is_up core.life.state) (drive_steps count name is_quiet core steps) (core_tells core steps (event.NotRunning name)) LeavesCore
-      (λ _. driven count name is_quiet core steps is) (λ _. is)
-
   -- ---- what is done under the name of a core
 
   core_act_kept : (images : List ImageState) (answer : Answer) (is_quiet : Bool) (on : NamedCoreState) (steps : ℕ) (asked : CoreAct) → C on.core
@@ -135,7 +110,7 @@ module _ (Fits : LinkAct (List ℕ) → Type 0) (C : CoreState → Type 0) (keep
   core_act_kept images answer is_quiet on steps (act.Show shown) is = is
   core_act_kept images answer is_quiet on steps (act.Crash kind) is = crash_kept on.name on.core steps is kind
   core_act_kept images answer is_quiet on steps (act.Recovery set) is = switch_kept on.name on.core steps is set
-  core_act_kept images answer is_quiet on steps (act.Drive count) is = drive_kept on.name is_quiet on.core steps count is
+  core_act_kept images answer is_quiet on steps (act.Drive count) is = drive_keeps on.name is_quiet C (λ core goes is. keep.drive core is) on.core steps count is
 
   pub core_kept : (images : List ImageState) (answer : Answer) (is_quiet : Bool) (on : NamedCoreState) (steps : ℕ) (wanted : NamedAct (List ℕ)) → FitsNamed Fits wanted → C on.core
       → C (core_effect images answer is_quiet on steps wanted).core

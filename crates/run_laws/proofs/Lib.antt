@@ -1,3 +1,4 @@
+pub mod ScriptDrives
 pub mod CoreWalks
 pub mod RunWalks
 pub mod RunsReached
@@ -6,7 +7,6 @@ pub mod CoresReady
 pub mod StartsInRuns
 pub mod ClosedLinks
 pub mod CrashedCores
-pub mod ScriptDrives
 pub mod AnyActs
 pub mod RegionsSound
 pub mod Beginnings

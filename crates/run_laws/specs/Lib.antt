@@ -3,5 +3,5 @@ pub mod Kept
 pub mod Starts
 pub mod ClosedLinks
 pub mod CrashedCores
-pub mod DriveEnds
+pub mod Drives
 pub mod Reopenings

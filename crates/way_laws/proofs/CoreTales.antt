@@ -1,11 +1,10 @@
 -- What is done under the name of a core keeps the tale of its link.
-use Rattle.std.proofs.Common.{◌≡◌, ℕ, [], zero, suc, ◌+◌, ◌==◌, Bool, true, false, cond, List, Option, Some, None, IfSome, option_map, Result, Ok, Err, refl, sym, subst}
+use Rattle.std.proofs.Common.{◌≡◌, ℕ, [], zero, suc, Bool, true, false, cond, List, Option, Some, None, IfSome, option_map, Result, Ok, Err, refl, sym, subst}
 use Rattle.std.proofs.lemmas.Bool.{cond_both}
 use Rattle.rp_base.specs.declared.kinds.End.{End}
 use Rattle.rp_base.specs.declared.kinds.End.TheVariants as side
 use Rattle.rp_base.specs.declared.kinds.CrashKind.{CrashKind}
 use Rattle.rp_base.specs.declared.kinds.DriverKind.{DriverKind}
-use Rattle.rp_base.specs.declared.limits.TheConstants.{STEPS_MOST}
 use Rattle.memory_pool.specs.declared.regions.Region.{Region}
 use Rattle.fw_load.specs.declared.rings.RingPair.{RingPair}
 use Rattle.proc_state.specs.declared.answers.Left.{Left as LeftTo}
@@ -21,7 +20,6 @@ use Rattle.lane_laws.proofs.LinkRuns.{move_sound}
 use Rattle.lane_laws.proofs.WayFacts.{opened, reopened}
 use Rattle.channel_bus.specs.Laws.{side_laws}
 use Rattle.channel_bus.specs.Sides.{EndState, side_meaning}
-use Rattle.journal.specs.declared.events.Event.{Event}
 use Rattle.journal.specs.declared.events.Event.TheVariants as event
 use Rattle.link_bench.specs.declared.acts.LinkAct.{LinkAct}
 use Rattle.link_bench.specs.Acts.{IsFitAct}
@@ -52,16 +50,18 @@ use Rattle.link_commands.specs.declared.acts.NamedAct.TheVariants as under
 use Rattle.link_commands.specs.declared.acts.StartAct.{StartAct}
 use Rattle.link_commands.specs.declared.acts.StartAct.TheVariants as starts
 use Rattle.command_run.specs.CoreCommands.{added_effect, core_act_effect, core_effect, driver_effect_unless, driver_effect, region_effect}
-use Rattle.command_run.specs.CoreDrives.{drive_effect, drive_steps, rest_event, rests_or, step_then}
+use Rattle.command_run.specs.CoreDrives.{drive_effect, drive_steps}
 use Rattle.command_run.specs.CoreEffects.{CoreEffect, core_tells}
 use Rattle.command_run.specs.CoreLinks.{core_link_effect}
-use Rattle.command_run.specs.CoreLives.{booted_image, core_stops, crash_effect, detach_effect, found_image, may_step, shutdown_effect, started_effect}
+use Rattle.command_run.specs.CoreLives.{booted_image, crash_effect, detach_effect, found_image, may_step, shutdown_effect, started_effect}
 use Rattle.command_run.specs.NamedCores.{NamedCoreState}
 use Rattle.command_run.specs.NamedImages.{ImageState}
 use Rattle.command_run.specs.Stores.{Answer}
+use Rattle.run_laws.specs.Drives.{after_steps, drive_made}
 use Rattle.run_laws.proofs.CoreWalks.{FitsNamed}
+use Rattle.run_laws.proofs.ScriptDrives.{drive_as}
 use Rattle.act_laws.specs.Accounts.{Account}
-use Rattle.way_laws.specs.CoreAccounts.{begun_account, core_account_after, core_act_deeds, deed_account, drive_account, left_account, life_account, ready_if, recovery_account, started_account, unless_some}
+use Rattle.way_laws.specs.CoreAccounts.{begun_account, core_account_after, core_act_deeds, deed_account, drive_account, left_account, life_account, ready_if, recovery_account, started_account, steps_account, unless_some}
 use Rattle.act_laws.specs.CoreDeeds.{drive_deeds}
 use Rattle.act_laws.specs.Deeds.{Deeds, no_deeds}
 use Rattle.act_laws.proofs.CalmDeeds.{IsCalm, Open, Silent, act_open, drive_calm, ready_open, reported_none}
@@ -210,29 +210,21 @@ module _ (end : End) (core : CoreState) (account : Option Account) (is : TaleIf 
 
 -- ---- drives
 
-rests_tale : (end : End) (core : CoreState) (steps : ℕ) (found : Option Event) (effect : CoreEffect) (account behind : Option Account) → TaleIf end core.bench account → TaleIf end effect.core.bench behind
-    → TaleIf end (rests_or core steps found effect).core.bench (unless_some found account behind)
-rests_tale end core steps None effect account behind is rest = rest
-rests_tale end core steps (Some told) effect account behind is rest = is
-
-driven_tale : (end : End) (count : ℕ) (name : List ℕ) (is_quiet : Bool) (core : CoreState) (steps : ℕ) (account : Option Account) → IsReachedCore core → TaleIf end core.bench account
-    → TaleIf end (drive_steps count name is_quiet core steps).core.bench (drive_account end count name core steps account)
-unfolding drive_steps drive_account
-driven_tale end zero name is_quiet core steps account reached is = is
-driven_tale end (suc more) name is_quiet core steps account reached is =
-    rests_tale end core steps (rest_event name core) _ account _ is
-    (both_if (steps == STEPS_MOST) (λ (effect : CoreEffect) (behind : Option Account). TaleIf end effect.core.bench behind) (core_stops core steps)
-    (step_then name is_quiet (drive_step core) (λ next. drive_steps more name is_quiet next (steps + 1))) account
-    (drive_account end more name (drive_step core).core (steps + 1) (deed_account end core.bench (drive_deeds core) account)) is
-    (driven_tale end more name is_quiet (drive_step core).core (steps + 1) (deed_account end core.bench (drive_deeds core) account) (core_driven core reached)
-    (deeds_if end core.bench account (drive_deeds core) (drive_step core).core.bench is (drive_calm end core) (drive_lands core reached))))
+steps_tale : (end : End) (made : ℕ) (core : CoreState) (account : Option Account) → IsReachedCore core → TaleIf end core.bench account → TaleIf end (after_steps made core).bench (steps_account end made core account)
+unfolding steps_account
+steps_tale end zero core account reached is = is
+steps_tale end (suc more) core account reached is =
+    steps_tale end more (drive_step core).core (deed_account end core.bench (drive_deeds core) account) (core_driven core reached)
+    (deeds_if end core.bench account (drive_deeds core) (drive_step core).core.bench is (drive_calm end core) (drive_lands core reached))
 
 drive_tale : (end : End) (name : List ℕ) (is_quiet : Bool) (core : CoreState) (steps count : ℕ) (account : Option Account) → IsReachedCore core → TaleIf end core.bench account
-    → TaleIf end (drive_effect name is_quiet core steps count).core.bench (cond (is_up core.life.state) (drive_account end count name core steps account) account)
+    → TaleIf end (drive_effect name is_quiet core steps count).core.bench (cond (is_up core.life.state) (drive_account end count core steps account) account)
 unfolding drive_effect
 drive_tale end name is_quiet core steps count account reached is =
+    let behind = drive_account end count core steps account in
+    let left = steps_tale end (drive_made count core steps) core account reached is in
     both_if (is_up core.life.state) (λ (effect : CoreEffect) (behind : Option Account). TaleIf end effect.core.bench behind) (drive_steps count name is_quiet core steps) (core_tells core steps (event.NotRunning name))
-    (drive_account end count name core steps account) account (driven_tale end count name is_quiet core steps account reached is) is
+    behind account (drive_as name is_quiet (λ effect. TaleIf end effect.core.bench behind) count core steps left (λ _ _ _. left)) is
 
 -- ---- acts on the link of a core
 

@@ -1,10 +1,9 @@
 -- Each line of a take that a drive of a core tells is the line of a handing that the drive tells, and the account of the link takes these up.
-use Rattle.std.proofs.Common.{◌≡◌, ℕ, zero, suc, ◌+◌, ◌==◌, Bool, true, false, cond, List, [], ◌∷◌, ◌++◌, Option, Some, None, IfSome, Contains, option_map, unwrap_or, refl, sym, ap, subst, ◌∙◌}
+use Rattle.std.proofs.Common.{◌≡◌, ℕ, zero, suc, Bool, true, false, cond, List, [], ◌∷◌, ◌++◌, Option, Some, None, IfSome, Contains, option_map, refl, sym, ap, subst, ◌∙◌}
 use Rattle.std.proofs.lemmas.Bool.{cond_both, true≢false}
 use Rattle.std.proofs.lemmas.List.{append_assoc, append-nil}
 use Rattle.std.proofs.lemmas.List.Elements.{All-append, All-cons, All-nil, All-weaker, Contains-append_left, Contains-append_right, Contains-push}
 use Rattle.rp_base.specs.declared.kinds.End.{End}
-use Rattle.rp_base.specs.declared.limits.TheConstants.{STEPS_MOST}
 use Rattle.proc_state.specs.Lives.{is_up}
 use Rattle.lane_laws.specs.Handings.{Handing}
 use Rattle.journal.specs.declared.events.Event.{Event}
@@ -13,15 +12,16 @@ use Rattle.link_bench.specs.Benches.{BenchState, link_in}
 use Rattle.core_laws.specs.BenchMoves.{IsReachedCore}
 use Rattle.core_laws.proofs.CoreMoves.{core_driven}
 use Rattle.crash_recover.specs.Cores.{CoreState}
-use Rattle.crash_recover.specs.Drives.{drive_step, is_idle}
-use Rattle.command_run.specs.CoreDrives.{drive_effect, drive_steps, is_crashed, rest_event, rests_or, step_events, step_then}
+use Rattle.crash_recover.specs.Drives.{drive_step}
+use Rattle.command_run.specs.CoreDrives.{drive_effect, drive_steps, step_events}
 use Rattle.command_run.specs.CoreEffects.{CoreEffect, core_tells}
-use Rattle.command_run.specs.CoreLives.{core_stops}
+use Rattle.run_laws.specs.Drives.{after_steps, drive_made, steps_events}
+use Rattle.run_laws.proofs.ScriptDrives.{drive_told, last_is}
 use Rattle.act_laws.specs.Accounts.{Account}
 use Rattle.act_laws.specs.CoreDeeds.{drive_deeds}
 use Rattle.act_laws.specs.Deeds.{Deeds}
 use Rattle.act_laws.proofs.Lands.{both_if}
-use Rattle.way_laws.specs.CoreAccounts.{deed_account, drive_account, drive_takes, unless_some}
+use Rattle.way_laws.specs.CoreAccounts.{deed_account, drive_account, drive_takes, steps_account, steps_takes}
 use Rattle.way_laws.specs.WordedTakes.{AreLinesAmong, AreLinesOfTakes, ComesFromOpening, IsLineAmong, IsLineOfTake, is_take_line}
 use Rattle.way_laws.proofs.DrivenWords.{drive_comes, none_driven}
 use Rattle.way_laws.proofs.TakeLines.{drive_lines}
@@ -65,51 +65,42 @@ module _ (name : List ℕ) where
 
   -- ---- a drive
 
-  none_rests : (core : CoreState) → IfSome (rest_event name core) (λ (line : Event). is_take_line line ≡ false)
-  none_rests core =
-      cond_both (is_crashed core.life.state) (Some (event.Stopped name)) _ (λ (found : Option Event). IfSome found (λ (line : Event). is_take_line line ≡ false)) (λ _. refl)
-      (λ _. cond_both (is_idle core) (Some (event.Idle name)) None (λ (found : Option Event). IfSome found (λ (line : Event). is_take_line line ≡ false)) (λ _. refl) (λ _. tt))
-
-  paused : (found : Option Event) → IfSome found (λ (line : Event). is_take_line line ≡ false) → is_take_line (unwrap_or found (event.Paused name)) ≡ false
-  paused None none = refl
-  paused (Some line) none = none
-
-  rests_among : (core : CoreState) (steps : ℕ) (found : Option Event) (takes : End → List Handing) (effect : CoreEffect) → IfSome found (λ (line : Event). is_take_line line ≡ false) → AreLinesAmong takes name effect.events
-      → AreLinesAmong (unless_some found (λ end. []) takes) name (rests_or core steps found effect).events
-  rests_among core steps None takes effect none are = are
-  rests_among core steps (Some line) takes effect none are = one_among (λ end. []) line none
+  told_among : (made : ℕ) (is_quiet : Bool) (core : CoreState) → IsReachedCore core → IfSome core.bench (λ (bench : BenchState). ComesFromOpening (link_in bench))
+      → AreLinesAmong (steps_takes made core) name (steps_events made name is_quiet core)
+  unfolding steps_events steps_takes
+  told_among zero is_quiet core reached comes = All-nil (IsAmong (λ end. []))
+  told_among (suc more) is_quiet core reached comes =
+      let next = (drive_step core).core in
+      let takes = (drive_deeds core).takes in
+      let later = steps_takes more next in
+      let first = step_events name is_quiet (drive_step core) in
+      let rest = steps_events more name is_quiet next in
+      All-append (IsAmong (both takes later)) first rest
+      (first_among takes later first (drive_lines name is_quiet core reached comes))
+      (later_among takes later rest (told_among more is_quiet next (core_driven core reached) (drive_comes core reached comes)))
 
   steps_among : (count : ℕ) (is_quiet : Bool) (core : CoreState) (steps : ℕ) → IsReachedCore core → IfSome core.bench (λ (bench : BenchState). ComesFromOpening (link_in bench))
-      → AreLinesAmong (drive_takes count name core steps) name (drive_steps count name is_quiet core steps).events
-  unfolding drive_steps drive_takes
-  steps_among zero is_quiet core steps reached comes = one_among (λ end. []) (unwrap_or (rest_event name core) (event.Paused name)) (paused (rest_event name core) (none_rests core))
-  steps_among (suc more) is_quiet core steps reached comes =
-      let next = (drive_step core).core in
-      let later = drive_takes more name next (steps + 1) in
-      let rest = drive_steps more name is_quiet next (steps + 1) in
-      let takes = (drive_deeds core).takes in
-      rests_among core steps (rest_event name core) _ _ (none_rests core)
-      (both_if (steps == STEPS_MOST) (λ (effect : CoreEffect) (told : End → List Handing). AreLinesAmong told name effect.events) (core_stops core steps)
-      (step_then name is_quiet (drive_step core) (λ next. drive_steps more name is_quiet next (steps + 1))) (λ end. []) (both takes later)
-      (All-nil (IsAmong (λ end. [])))
-      (All-append (IsAmong (both takes later)) (step_events name is_quiet (drive_step core)) rest.events
-      (first_among takes later (step_events name is_quiet (drive_step core)) (drive_lines name is_quiet core reached comes))
-      (later_among takes later rest.events (steps_among more is_quiet next (steps + 1) (core_driven core reached) (drive_comes core reached comes)))))
+      → AreLinesAmong (drive_takes count core steps) name (drive_steps count name is_quiet core steps).events
+  steps_among count is_quiet core steps reached comes =
+      let made = drive_made count core steps in
+      let Q = IsAmong (drive_takes count core steps) in
+      drive_told name is_quiet Q count core steps (told_among made is_quiet core reached comes)
+      (last_is name Q (after_steps made core) (λ is. absurd (true≢false (sym is))) (λ is. absurd (true≢false (sym is))) (λ is. absurd (true≢false (sym is))))
 
   pub drive_among : (is_quiet : Bool) (core : CoreState) (steps count : ℕ) → IsReachedCore core → IfSome core.bench (λ (bench : BenchState). ComesFromOpening (link_in bench))
-      → AreLinesAmong (drive_takes count name core steps) name (drive_effect name is_quiet core steps count).events
+      → AreLinesAmong (drive_takes count core steps) name (drive_effect name is_quiet core steps count).events
   unfolding drive_effect
   drive_among is_quiet core steps count reached comes =
-      cond_both (is_up core.life.state) (drive_steps count name is_quiet core steps) (core_tells core steps (event.NotRunning name)) (λ (effect : CoreEffect). AreLinesAmong (drive_takes count name core steps) name effect.events)
-      (λ _. steps_among count is_quiet core steps reached comes) (λ _. one_among (drive_takes count name core steps) (event.NotRunning name) refl)
+      cond_both (is_up core.life.state) (drive_steps count name is_quiet core steps) (core_tells core steps (event.NotRunning name)) (λ (effect : CoreEffect). AreLinesAmong (drive_takes count core steps) name effect.events)
+      (λ _. steps_among count is_quiet core steps reached comes) (λ _. one_among (drive_takes count core steps) (event.NotRunning name) refl)
 
   -- the same, where a drive of a core that is not up tells of no take
   pub drive_up_among : (is_quiet : Bool) (core : CoreState) (steps count : ℕ) → IsReachedCore core → IfSome core.bench (λ (bench : BenchState). ComesFromOpening (link_in bench))
-      → AreLinesAmong (cond (is_up core.life.state) (drive_takes count name core steps) (λ end. [])) name (drive_effect name is_quiet core steps count).events
+      → AreLinesAmong (cond (is_up core.life.state) (drive_takes count core steps) (λ end. [])) name (drive_effect name is_quiet core steps count).events
   unfolding drive_effect
   drive_up_among is_quiet core steps count reached comes =
       both_if (is_up core.life.state) (λ (effect : CoreEffect) (takes : End → List Handing). AreLinesAmong takes name effect.events) (drive_steps count name is_quiet core steps) (core_tells core steps (event.NotRunning name))
-      (drive_takes count name core steps) (λ end. [])
+      (drive_takes count core steps) (λ end. [])
       (steps_among count is_quiet core steps reached comes) (one_among (λ end. []) (event.NotRunning name) refl)
 
 -- ---- the account
@@ -129,20 +120,13 @@ module _ (end : End) where
   deeds_then_add (Some bench) deeds None after later none is = is
   deeds_then_add (Some bench) deeds (Some account) after later none is = is ∙ ap (λ (l : List Handing). Some l) (append_assoc account.told (deeds.takes end) later)
 
-  unless_adds : (found : Option Event) (account after : Option Account) (takes : End → List Handing) → Adds account after (takes end) → Adds account (unless_some found account after) (unless_some found (λ other. []) takes end)
-  unless_adds None account after takes is = is
-  unless_adds (Some line) account after takes is = adds_none account
-
-  pub drive_adds : (count : ℕ) (name : List ℕ) (core : CoreState) (steps : ℕ) (account : Option Account) → IsReachedCore core
-      → Adds account (drive_account end count name core steps account) (drive_takes count name core steps end)
-  unfolding drive_account drive_takes
-  drive_adds zero name core steps account reached = adds_none account
-  drive_adds (suc more) name core steps account reached =
+  steps_add : (made : ℕ) (core : CoreState) (account : Option Account) → IsReachedCore core → Adds account (steps_account end made core account) (steps_takes made core end)
+  unfolding steps_account steps_takes
+  steps_add zero core account reached = adds_none account
+  steps_add (suc more) core account reached =
       let next = (drive_step core).core in
-      let later = drive_takes more name next (steps + 1) in
-      let behind = drive_account end more name next (steps + 1) (deed_account end core.bench (drive_deeds core) account) in
-      unless_adds (rest_event name core) account _ _
-      (both_if (steps == STEPS_MOST) (λ (after : Option Account) (told : End → List Handing). Adds account after (told end)) account behind (λ other. []) (λ other. (drive_deeds core).takes other ++ later other)
-      (adds_none account)
-      (deeds_then_add core.bench (drive_deeds core) account behind (later end) (none_driven core end reached)
-      (drive_adds more name next (steps + 1) (deed_account end core.bench (drive_deeds core) account) (core_driven core reached))))
+      let behind = deed_account end core.bench (drive_deeds core) account in
+      deeds_then_add core.bench (drive_deeds core) account (steps_account end more next behind) (steps_takes more next end) (none_driven core end reached) (steps_add more next behind (core_driven core reached))
+
+  pub drive_adds : (count : ℕ) (core : CoreState) (steps : ℕ) (account : Option Account) → IsReachedCore core → Adds account (drive_account end count core steps account) (drive_takes count core steps end)
+  drive_adds count core steps account reached = steps_add (drive_made count core steps) core account reached

@@ -131,8 +131,8 @@ module _ (told : Told) (commands : List Command) (runs : AreRunnable commands) (
 
   -- a drive of a core
   pub drive_lines : (count : ℕ) (on : NamedCoreState) → slice_get run.objects.cores place ≡ Some on → done_on_core run place (line_of asked) ≡ Some (under.Core (core.Drive count))
-      → AreLinesAmong (drive_takes count on.name on.core run.steps) on.name (effect_of answer run asked).events
+      → AreLinesAmong (drive_takes count on.core run.steps) on.name (effect_of answer run asked).events
   unfolding core_effect core_act_effect
   drive_lines count on found done =
-      subst (AreLinesAmong (drive_takes count on.name on.core run.steps) on.name) (sym (core_tells answer run place on found asked (under.Core (core.Drive count)) done))
+      subst (AreLinesAmong (drive_takes count on.core run.steps) on.name) (sym (core_tells answer run place on found asked (under.Core (core.Drive count)) done))
       (drive_among on.name run.objects.is_quiet on.core run.steps count (reached on found) (cores_come told commands place on runs found))

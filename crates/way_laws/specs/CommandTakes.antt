@@ -34,7 +34,7 @@ line_may_take other = false
 -- what is told of takes at each end by what is done under the name of a core: by an act on its link, and by a drive of a core that is up
 abbrev pub core_takes : NamedCoreState → ℕ → NamedAct (List ℕ) → End → List Handing
 core_takes on steps (under.Link asked) = (core_act_deeds on.core on.core.bench steps asked).takes
-core_takes on steps (under.Core (core.Drive count)) = if is_up on.core.life.state then drive_takes count on.name on.core steps else (λ end. [])
+core_takes on steps (under.Core (core.Drive count)) = if is_up on.core.life.state then drive_takes count on.core steps else (λ end. [])
 core_takes on steps other = λ end. []
 
 -- an event is the line of the one handing that is told at an end of a link of the run, by what a command does under the name of that link

@@ -1,7 +1,6 @@
 -- The accounts of the links of a run's cores: what each command adds to them (own).
-use Rattle.std.specs.Prelude.{ℕ, zero, suc, ◌+◌, ◌==◌, ◌&&◌, Bool, List, [], ◌++◌, slice_get, Option, Some, None, is_none, option_and_then, option_map, Result, Ok, Err, if◌then◌else◌}
+use Rattle.std.specs.Prelude.{ℕ, zero, suc, ◌&&◌, Bool, List, [], ◌++◌, slice_get, Option, Some, None, is_none, option_and_then, option_map, Result, Ok, Err, if◌then◌else◌}
 use Rattle.rp_base.specs.declared.kinds.End.{End}
-use Rattle.rp_base.specs.declared.limits.TheConstants.{STEPS_MOST}
 use Rattle.proc_state.specs.Lives.{is_up}
 use Rattle.lane_laws.specs.Handings.{Handing}
 use Rattle.script_lang.specs.declared.commands.Command.{Command}
@@ -26,12 +25,12 @@ use Rattle.link_commands.specs.declared.acts.NamedAct.{NamedAct}
 use Rattle.link_commands.specs.declared.acts.NamedAct.TheVariants as under
 use Rattle.link_commands.specs.declared.acts.StartAct.TheVariants as starts
 use Rattle.link_commands.specs.Acts.{line_of}
-use Rattle.command_run.specs.CoreDrives.{rest_event}
 use Rattle.command_run.specs.CoreLives.{booted_image, found_image, may_step}
 use Rattle.command_run.specs.NamedCores.{NamedCoreState}
 use Rattle.command_run.specs.NamedImages.{ImageState}
 use Rattle.command_run.specs.Runs.{RunState, core_place, new_run, place_of}
 use Rattle.command_run.specs.Stores.{Answer, Told}
+use Rattle.run_laws.specs.Drives.{drive_made}
 use Rattle.act_laws.specs.Accounts.{Account, new_account, with_deeds}
 use Rattle.act_laws.specs.CoreDeeds.{drive_deeds, ready_deeds, reported_deeds}
 use Rattle.act_laws.specs.Deeds.{Deeds, act_deeds, no_deeds}
@@ -73,21 +72,23 @@ recovery_account end on found account =
     unless_some (recovery_fault on.life) account (unless_some (reload_fault on found) account
     (unless_some (reopen_fault on) (deed_account end on.bench (ready_if on.bench) account) (begun_account (after_recovery on (load_in on found)).bench)))
 
--- behind so many steps of the actors, fewer where they come to rest or the run has no step left
-unfoldable pub drive_account : End → ℕ → List ℕ → CoreState → ℕ → Option Account → Option Account
-drive_account end zero name on steps account = account
-drive_account end (suc more) name on steps account =
-    unless_some (rest_event name on) account
-    (if steps == STEPS_MOST then account
-    else drive_account end more name (drive_step on).core (steps + 1) (deed_account end on.bench (drive_deeds on) account))
+-- behind the first steps of the actors
+unfoldable pub steps_account : End → ℕ → CoreState → Option Account → Option Account
+steps_account end zero on account = account
+steps_account end (suc more) on account = steps_account end more (drive_step on).core (deed_account end on.bench (drive_deeds on) account)
 
--- what so many steps of the actors tell of takes at each end, one after the other
-unfoldable pub drive_takes : ℕ → List ℕ → CoreState → ℕ → End → List Handing
-drive_takes zero name on steps = λ end. []
-drive_takes (suc more) name on steps =
-    unless_some (rest_event name on) (λ end. [])
-    (if steps == STEPS_MOST then (λ end. [])
-    else (λ end. (drive_deeds on).takes end ++ drive_takes more name (drive_step on).core (steps + 1) end))
+-- behind a drive of so many steps, of which fewer are made where the core rests or the run has no step left
+abbrev pub drive_account : End → ℕ → CoreState → ℕ → Option Account → Option Account
+drive_account end count on steps account = steps_account end (drive_made count on steps) on account
+
+-- what the first steps of the actors tell of takes at each end, one after the other
+unfoldable pub steps_takes : ℕ → CoreState → End → List Handing
+steps_takes zero on end = []
+steps_takes (suc more) on end = (drive_deeds on).takes end ++ steps_takes more (drive_step on).core end
+
+-- the same of such a drive
+abbrev pub drive_takes : ℕ → CoreState → ℕ → End → List Handing
+drive_takes count on steps = steps_takes (drive_made count on steps) on
 
 -- behind an act on a core
 abbrev pub life_account : End → List ImageState → Answer → NamedCoreState → ℕ → CoreAct → Option Account → Option Account
@@ -101,7 +102,7 @@ life_account end images answer on steps core.Detach account = left_account (deta
 life_account end images answer on steps (core.Crash kind) account =
     deed_account end on.core.bench (reported_deeds (report_of (may_step steps) on.core).answer on.core.bench) account
 life_account end images answer on steps (core.Drive count) account =
-    if is_up on.core.life.state then drive_account end count on.name on.core steps account else account
+    if is_up on.core.life.state then drive_account end count on.core steps account else account
 life_account end images answer on steps other account = account
 
 -- an act on the link that a core has, whose first two callers are its own

@@ -121,12 +121,12 @@ pub fn lines_have_takes()
         → AreRunnable commands → IsRunnable asked
         → let run = (run_of told commands).last in
         slice_get run.objects.cores place ≡ Some on → done_on_core run place (line_of asked) ≡ Some (under.Core (core.Drive count))
-        → AreLinesAmong (drive_takes count on.name on.core run.steps) on.name (effect_of answer run asked).events }
+        → AreLinesAmong (drive_takes count on.core run.steps) on.name (effect_of answer run asked).events }
     ensures driven { (name : List ℕ) (is_quiet : Bool) (core : CoreState) → IsReachedCore core → IfSome core.bench (λ (bench : BenchState). ComesFromOpening (link_in bench))
         → AreLinesOfTakes (drive_deeds core).takes name (step_events name is_quiet (drive_step core)) }
-    ensures drive_adds { (end : End) (count : ℕ) (name : List ℕ) (core : CoreState) (steps : ℕ) (account : Option Account) → IsReachedCore core
-        → option_map (λ (now : Account). now.told) (drive_account end count name core steps account)
-        ≡ option_map (λ (now : Account). now.told ++ drive_takes count name core steps end) account }
+    ensures drive_adds { (end : End) (count : ℕ) (core : CoreState) (steps : ℕ) (account : Option Account) → IsReachedCore core
+        → option_map (λ (now : Account). now.told) (drive_account end count core steps account)
+        ≡ option_map (λ (now : Account). now.told ++ drive_takes count core steps end) account }
     ensures named_core { (told : Told) (commands : List Command) (answer : Answer) (asked : Command) (place : ℕ) (wanted : NamedAct (List ℕ)) (on : NamedCoreState)
         → AreRunnable commands → IsRunnable asked
         → let run = (run_of told commands).last in
