@@ -75,8 +75,8 @@ regions_stay = record {
 regions_in_parts : AreKeptParts HasSoundRegions
 regions_in_parts = record {
   turn = λ who core is. is;
-  host = λ core bench there is. is;
-  call = λ core bench there is. is;
+  host = λ core bench there may is. is;
+  call = λ core bench there may is. is;
   run = λ core load there silent is. is;
   report = λ core is. report_stays HasSoundRegions regions_stay true core is;
 }

@@ -182,8 +182,8 @@ report_load core is = report_left IsFitLoad true core is (λ life stops. record 
 load_parts : AreKeptParts IsFitLoad
 load_parts = record {
   turn = λ who core is. record { book = is.book; regions = is.regions; rings = is.rings };
-  host = λ core bench there is. record { book = is.book; regions = is.regions; rings = is.rings };
-  call = λ core bench there is. record { book = is.book; regions = is.regions; rings = is.rings };
+  host = λ core bench there may is. record { book = is.book; regions = is.regions; rings = is.rings };
+  call = λ core bench there may is. record { book = is.book; regions = is.regions; rings = is.rings };
   run = λ core load there silent is. record { book = is.book; regions = is.regions; rings = subst (λ (loaded : Option LoadState). IfSome (loaded_rings loaded) IsSoundPair) there is.rings };
   report = report_load;
 }
