@@ -26,6 +26,7 @@ use Rattle.script_run.specs.declared.statuses.Status.TheVariants as status
 use Rattle.script_run.specs.Statuses.{status_number, status_of}
 use Rattle.link_commands.specs.declared.stops.Stop.{Stop}
 use Rattle.link_commands.specs.declared.stops.Stop.TheVariants as stop
+use Rattle.command_run.specs.declared.faults.OutputFault.{OutputFault}
 use Rattle.command_run.specs.declared.faults.OutputFault.TheVariants as output_fault
 use Rattle.command_run.specs.Stores.{IsHeld, IsTold, Told, store_of}
 use Rattle.command_run.specs.Runs.{ObjectsState, new_run, run_of}
@@ -96,10 +97,10 @@ ends_asked ended form before now output asked well written =
     record { output = output; course = asked_course ended form before now output asked well; written = written }
 
 -- the line of a device that failed was written
-pub ends_fault : (ended : Status) (form : Form) (before now : Devices) (output : Output) → ended ≢ status.NoMemory → IsFaultOutput form before now output
-    → Writes ended output before.written now.written before.sink_faults now.sink_faults → Ends ended form before now
-ends_fault ended form before now output found fault written =
-    record { output = output; course = fault_course ended form before now output found fault; written = written }
+pub ends_fault : (ended : Status) (form : Form) (before now : Devices) (made output : Output) → output ≡ made → ended ≢ status.NoMemory → IsFaultOutput form before now output
+    → Writes ended made before.written now.written before.sink_faults now.sink_faults → Ends ended form before now
+ends_fault ended form before now made output is found fault written =
+    record { output = output; course = fault_course ended form before now output found fault; written = rw (is) written }
 
 -- some output of a script, and of an image
 some_script : (images : Option (List (List ℕ × List ℕ))) (bytes : List ℕ) → (output : Output) × IsScriptOutput images bytes output
@@ -342,12 +343,22 @@ module _ (images : Option (List (List ℕ × List ℕ))) (commands : List Comman
         stands = final_stands ended writes.told commands yard old new final writes.stands;
       }
 
-  -- or in part
-  pub run_in_part : RunWrites images commands yard (Err output_fault.Failed) old new before now was then → RunLeaves status.WriteFault images commands yard old new before now was then
-  run_in_part writes = record { ends = record { told = writes.told; course = writes.course; written = writes.text }; stands = writes.stands }
+  -- what was written, by the fault that is answered
+  run_to : (fault why : OutputFault) → fault ≡ why → RunWrites images commands yard (Err fault) old new before now was then → RunWrites images commands yard (Err why) old new before now was then
+  run_to fault why is writes = subst (λ (it : OutputFault). RunWrites images commands yard (Err it) old new before now was then) is writes
 
-  pub run_no_memory : RunWrites images commands yard (Err output_fault.NoMemory) old new before now was then → RunLeaves status.NoMemory images commands yard old new before now was then
-  run_no_memory writes = record { ends = record { told = writes.told; course = writes.course; written = writes.text }; stands = tt }
+  -- a run that was written in part
+  pub run_in_part : (fault : OutputFault) → fault ≡ output_fault.Failed → RunWrites images commands yard (Err fault) old new before now was then
+      → RunLeaves status.WriteFault images commands yard old new before now was then
+  run_in_part fault is wrote =
+      let writes = run_to fault output_fault.Failed is wrote in
+      record { ends = record { told = writes.told; course = writes.course; written = writes.text }; stands = writes.stands }
+
+  pub run_no_memory : (fault : OutputFault) → fault ≡ output_fault.NoMemory → RunWrites images commands yard (Err fault) old new before now was then
+      → RunLeaves status.NoMemory images commands yard old new before now was then
+  run_no_memory fault is wrote =
+      let writes = run_to fault output_fault.NoMemory is wrote in
+      record { ends = record { told = writes.told; course = writes.course; written = writes.text }; stands = tt }
 
 module _ (images : Option (List (List ℕ × List ℕ))) (said : Result (List Command) Refusal) (old : Option (List ℕ)) (before was : ℕ) where
   -- memory ran out before the run

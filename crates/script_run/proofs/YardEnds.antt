@@ -1,4 +1,4 @@
--- What the words `run` leave of the yard, from what was read and what was left.
+-- How the program ends and what it leaves of the yard, from what was read and what was left.
 use Rattle.std.proofs.Common.{◌≡◌, ◌≢◌, ◌⊎◌, ◌<◌, ◌≤◌, ◌+◌, inl, inr, ℕ, Bool, true, false, cond, List, [], Option, Some, None, Result, Ok, Err, length, refl, sym, ap, subst, ◌∙◌, true≢false, arith}
 use Rattle.std.specs.Io.KnownBytes.{IsAtEnd}
 use Rattle.std.proofs.lemmas.Bool.{cases_lt}
@@ -12,10 +12,11 @@ use Rattle.link_commands.specs.declared.stops.Stop.TheVariants as stop
 use Rattle.command_run.specs.Runs.{ObjectsState, run_of}
 use Rattle.script_run.specs.declared.statuses.Status.{Status}
 use Rattle.script_run.specs.declared.statuses.Status.TheVariants as status
-use Rattle.script_run.specs.Outputs.{Form, other, run, check, demo, storm, audit, read_fault_output, stop_output, store_fault_output}
-use Rattle.script_run.specs.Endings.{Devices, OfSource, Writes}
+use Rattle.script_run.specs.Outputs.{Form, other, run, check, demo, storm, audit, Output, read_fault_output, stop_output, store_fault_output}
+use Rattle.script_run.specs.Endings.{Devices, IsReadWell, OfSource, RunEnds, Writes}
 use Rattle.script_run.specs.Yards.{Leaves, ScriptLeaves, SourceLeaves, TextLeaves}
-use Rattle.script_run.proofs.Ends.{read_same, script_fits, unread_ends}
+use Rattle.script_run.specs.Programs.{FormEnds, ProgramEnds}
+use Rattle.script_run.proofs.Ends.{complete, ends_fault, ends_no_memory, ends_run, read_same, script_fits, unread_ends}
 
 -- the status of a source that failed
 abbrev is_read_fault : Status → Bool
@@ -65,9 +66,20 @@ module _ (before now : Devices) (yard left : ObjectsState) where
   source_leaves status.StepLimit leaves = leaves
   source_leaves status.StoreFault leaves = leaves
 
-  -- a script that was read
-  pub script_leaves : (ended : Status) (bytes : List ℕ) → IsFrontOf before.left (SCRIPT_MOST + 1) bytes → text_leaves ended (script_of bytes) → ScriptLeaves ended before now yard left
-  script_leaves ended bytes front leaves = source_leaves ended (read_leaves ended before.left bytes front leaves)
+  -- a script that was read was run
+  pub read_ends : (ended : Status) (bytes : List ℕ) → IsFrontOf before.left (SCRIPT_MOST + 1) bytes → now.source_faults ≡ before.source_faults
+      → RunEnds ended before.images (script_of bytes) before.written now.written before.sink_faults now.sink_faults before.store_faults now.store_faults → text_leaves ended (script_of bytes)
+      → FormEnds ended run before now yard left
+  read_ends ended bytes front same ends leaves =
+      record { ends = ends_run ended before now bytes front same ends; leaves = source_leaves ended (read_leaves ended before.left bytes front leaves) }
+
+  -- with the number of the status
+  pub program_ends : (answer : Option Status) (ended : Status) (form : Form) → answer ≡ Some ended → FormEnds ended form before now yard left → ProgramEnds answer form before now yard left
+  program_ends answer ended form is ends = rw (is) (record {
+    answer = ends.ends;
+    complete = λ sources stores sinks. complete ended form before now sources stores sinks ends.ends;
+    yard = ends.leaves;
+  })
 
 -- a text of which memory ran out before it was run
 pub memory_leaves : (images : Option (List (List ℕ × List ℕ))) (said : Result (List Command) Refusal) (yard : ObjectsState) (old : Option (List ℕ)) (before was : ℕ)
@@ -92,35 +104,31 @@ unended source bytes holds ends not_ended long = by_length (cases_lt SCRIPT_MOST
     by_length (inl is) = long is
     by_length (inr fits) = absurd (not_ended (ends fits))
 
-module _ (before now : Devices) (yard : ObjectsState) (written : now.written ≡ before.written) (sinks : now.sink_faults ≡ before.sink_faults) (stores : now.store_faults ≡ before.store_faults) where
+module _ (form : Form) (before now : Devices) (yard : ObjectsState) (well : IsReadWell before now) (written : now.written ≡ before.written) (sinks : now.sink_faults ≡ before.sink_faults) where
   -- memory ran out before a text was read
   unread_memory : (said : Result (List Command) Refusal)
       → TextLeaves status.NoMemory before.images said yard yard before.written now.written before.sink_faults now.sink_faults before.store_faults now.store_faults
-  unread_memory said =
-      subst (λ (new : Option (List ℕ)). TextLeaves status.NoMemory before.images said yard yard before.written new before.sink_faults now.sink_faults before.store_faults now.store_faults) (sym written)
-      (subst (λ (n : ℕ). TextLeaves status.NoMemory before.images said yard yard before.written before.written before.sink_faults n before.store_faults now.store_faults) (sym sinks)
-      (subst (λ (n : ℕ). TextLeaves status.NoMemory before.images said yard yard before.written before.written before.sink_faults before.sink_faults before.store_faults n) (sym stores)
-      (memory_leaves before.images said yard before.written before.sink_faults before.store_faults)))
+  unread_memory said = rw (written, sinks, well.store) (memory_leaves before.images said yard before.written before.sink_faults before.store_faults)
 
   unread_any : (source : Option (List ℕ))
       → OfSource source (λ bytes. TextLeaves status.NoMemory before.images (script_of bytes) yard yard before.written now.written before.sink_faults now.sink_faults before.store_faults now.store_faults)
   unread_any None = ([], unread_memory (script_of []))
   unread_any (Some bytes) = unread_memory (script_of bytes)
 
-  pub memory_script : ScriptLeaves status.NoMemory before now yard yard
-  memory_script = unread_any before.left
-
   -- or before the words were
-  pub memory_words : (form : Form) → Leaves status.NoMemory form before now yard yard
+  memory_words : (asked : Form) → Leaves status.NoMemory asked before now yard yard
   memory_words other = refl
-  memory_words run = memory_script
+  memory_words run = unread_any before.left
   memory_words (check name) = refl
   memory_words (demo sessions) = refl
   memory_words (storm plan) = refl
   memory_words audit = refl
 
+  pub memory_ends : FormEnds status.NoMemory form before now yard yard
+  memory_ends = record { ends = ends_no_memory form before now well written sinks; leaves = memory_words form }
+
 -- the line of a source that failed was written, or a front of it
-pub unread_leaves : (ended : Status) (before now : Devices) (yard : ObjectsState) → ended ≢ status.NoMemory → Rose before.source_faults now.source_faults
+unread_leaves : (ended : Status) (before now : Devices) (yard : ObjectsState) → ended ≢ status.NoMemory → Rose before.source_faults now.source_faults
     → Writes ended read_fault_output before.written now.written before.sink_faults now.sink_faults → ScriptLeaves ended before now yard yard
 unread_leaves status.Done before now yard found rose wrote = absurd (true≢false (ap is_read_fault wrote.0))
 unread_leaves status.Unsound before now yard found rose wrote = absurd (true≢false (ap is_read_fault wrote.0))
@@ -131,3 +139,10 @@ unread_leaves status.NoMemory before now yard found rose wrote = absurd (found r
 unread_leaves status.Refused before now yard found rose wrote = absurd (true≢false (ap is_read_fault wrote.0))
 unread_leaves status.StepLimit before now yard found rose wrote = absurd (true≢false (ap is_read_fault wrote.0))
 unread_leaves status.StoreFault before now yard found rose wrote = absurd (true≢false (ap is_read_fault wrote.0))
+
+pub fault_ends : (ended : Status) (before now : Devices) (yard : ObjectsState) (made : Output) → read_fault_output ≡ made → ended ≢ status.NoMemory → Rose before.source_faults now.source_faults
+    → now.store_faults ≡ before.store_faults → Writes ended made before.written now.written before.sink_faults now.sink_faults → FormEnds ended run before now yard yard
+fault_ends ended before now yard made is found rose same wrote = record {
+  ends = ends_fault ended run before now made read_fault_output is found (inl (refl, rose, same)) wrote;
+  leaves = unread_leaves ended before now yard found rose (rw (is) wrote);
+}

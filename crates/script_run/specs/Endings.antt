@@ -2,6 +2,9 @@
 use Rattle.std.specs.Prelude.{◌≡◌, ◌⊎◌, ◌<◌, ◌≤◌, ◌+◌, ℕ, Bool, true, false, List, length, Option, Some, None, Result, Ok, Err}
 use Rattle.std.specs.Io.KnownBytes.{Appends}
 use Rattle.rp_io.specs.declared.faults.FetchFault.{FetchFault}
+use Rattle.rp_io.specs.declared.sinks.Sink as sinks
+use Rattle.rp_io.specs.declared.sources.Source as sources
+use Rattle.rp_io.specs.declared.stores.FirmwareStore as stores
 use Rattle.rp_io.specs.Causes.{Rose}
 use Rattle.rp_io.specs.Contents.{AppendsFront}
 use Rattle.rp_base.specs.declared.limits.TheConstants.{SCRIPT_MOST}
@@ -32,16 +35,23 @@ pub record Devices : Type 0 where
   pub store_faults : ℕ
   pub sink_faults : ℕ
 
--- the source, the store and the sink: what each holds, with its count of faults
-abbrev pub devices : Option (List ℕ) → ℕ → Option (List (List ℕ × List ℕ)) → ℕ → Option (List ℕ) → ℕ → Devices
-devices left source_faults images store_faults written sink_faults = record {
-  left = left;
-  images = images;
-  written = written;
-  source_faults = source_faults;
-  store_faults = store_faults;
-  sink_faults = sink_faults;
+-- the source, the store and the sink, by what contracts know of each: what it holds, with its count of faults
+abbrev pub devices : {S F K : Type 0} → sources.Ghosts S → stores.Ghosts F → sinks.Ghosts K → S → F → K → Devices
+devices source store sink script images out = record {
+  left = source.left script;
+  images = store.images images;
+  written = sink.written out;
+  source_faults = source.faults script;
+  store_faults = store.faults images;
+  sink_faults = sink.faults out;
 }
+
+-- a source that has so much left, and a store of these images, each with its count of faults, for what is done without the one or the other
+abbrev pub source_with : Option (List ℕ) → ℕ → sources.Ghosts (Unit {0})
+source_with left faults = record { left = λ source. left; faults = λ source. faults }
+
+abbrev pub store_with : Option (List (List ℕ × List ℕ)) → ℕ → stores.Ghosts (Unit {0})
+store_with images faults = record { images = λ store. images; faults = λ store. faults }
 
 -- neither the source nor the store failed
 pub record IsReadWell (before now : Devices) : Type 0 where

@@ -6,5 +6,6 @@ pub mod Demos
 pub mod DemoRuns
 pub mod Endings
 pub mod Yards
+pub mod Programs
 pub mod ImageReports
 pub mod Told

@@ -4,7 +4,7 @@ ghost use Rattle.rp_io.specs.Contents.{LosesFront};
 ghost use Rattle.journal_check.specs.declared.limits.TheConstants.{TRANSCRIPT_MOST};
 ghost use Rattle.journal.specs.Notices.{report_text};
 ghost use Rattle.script_run.specs.Outputs.{audit as audit_form, audit_output};
-ghost use Rattle.script_run.specs.Endings.{AuditEnds, Ends, IsFinal, IsReadEnd, devices};
+ghost use Rattle.script_run.specs.Endings.{AuditEnds, Ends, IsFinal, IsReadEnd, devices, store_with};
 
 use crate::endings::{end_with, end_with_text};
 use crate::statuses::Status;
@@ -21,10 +21,8 @@ pub(crate) fn audit_text<S: Source, K: Sink>(
     transcript: &mut S,
     out: &mut K,
 ) -> Status
-    ensures ends { (images : Option (List (List ℕ × List ℕ))) (store : ℕ) →
-        Ends result audit_form
-        (devices (S.left transcript.old) (S.faults transcript.old) images store (K.written out.old) (K.faults out.old))
-        (devices (S.left transcript.new) (S.faults transcript.new) images store (K.written out.new) (K.faults out.new)) }
+    ensures ends { (images : Option (List (List ℕ × List ℕ))) (faults : ℕ) → let at = devices S.Source (store_with images faults) K.Sink in
+        Ends result audit_form (at transcript.old tt out.old) (at transcript.new tt out.new) }
     ensures read { IsReadEnd result → IsAtEnd (S.left transcript.new) }
     ensures taken { LosesFront (S.left transcript.old) (S.left transcript.new) (TRANSCRIPT_MOST + 1) }
 {

@@ -1,6 +1,5 @@
 ghost use Rattle.std.specs.Prelude.{◌≡◌, ◌≤◌, ◌<◌, ◌+◌, length, map, true, false};
 ghost use Rattle.rp_base.specs.declared.limits.TheConstants.{SCRIPT_MOST};
-ghost use Rattle.rp_io.specs.Causes.{Rose};
 ghost use Rattle.std.specs.Io.KnownBytes.{IsAtEnd};
 ghost use Rattle.rp_io.specs.Contents.{LosesFront};
 ghost use Rattle.script_lang.specs.Grammar.{IsScript, script_of};
@@ -9,8 +8,9 @@ ghost use Rattle.command_run.specs.Runs.{AsksNone, new_run};
 ghost use Rattle.command_run.specs.Lookups.{is_bare};
 ghost use Rattle.script_run.specs.Outputs.{run as run_form};
 ghost use Rattle.script_run.specs.Statuses.{status_of};
-ghost use Rattle.script_run.specs.Endings.{AnswersAs, AnswersWell, Ends, IsReadAnswer, IsReadEnd, NeedsNoStore, RunAnswersAs, RunEnds, SourceAsksNone, TextAsksNone, devices, reads_source, source_most};
-ghost use Rattle.script_run.specs.Yards.{Leaves, LeavesAs, RunLeaves, RunLeavesAs, ScriptLeaves, TextLeaves};
+ghost use Rattle.script_run.specs.Endings.{IsReadAnswer, IsReadEnd, NeedsNoStore, RunAnswersAs, RunEnds, SourceAsksNone, TextAsksNone, devices, reads_source, source_most};
+ghost use Rattle.script_run.specs.Yards.{RunLeaves, RunLeavesAs, TextLeaves};
+ghost use Rattle.script_run.specs.Programs.{FormEnds, ProgramEnds};
 
 use crate::audits::audit_text;
 use crate::demos::demo;
@@ -59,22 +59,14 @@ pub fn run_program<R: Threads + Wait + Sync, S: Source, F: FirmwareStore, K: Sin
     out: &mut K,
 ) -> u8
     requires { is_bare yard.old ≡ true }
-    ensures answer { let form = form_of (map (λ word. word.now) words.now) in
-        let before = devices (S.left script.old) (S.faults script.old) (F.images store.old) (F.faults store.old) (K.written out.old) (K.faults out.old) in
-        let now = devices (S.left script.new) (S.faults script.new) (F.images store.new) (F.faults store.new) (K.written out.new) (K.faults out.new) in
-        AnswersAs (status_of result) form before now }
-    ensures complete { let form = form_of (map (λ word. word.now) words.now) in
-        let before = devices (S.left script.old) (S.faults script.old) (F.images store.old) (F.faults store.old) (K.written out.old) (K.faults out.old) in
-        ¬ Rose (S.faults script.old) (S.faults script.new) → ¬ Rose (F.faults store.old) (F.faults store.new) → ¬ Rose (K.faults out.old) (K.faults out.new)
-        → AnswersWell (status_of result) form before }
+    ensures ends { let form = form_of (map (λ word. word.now) words.now) in
+        let before = devices S.Source F.FirmwareStore K.Sink script.old store.old out.old in
+        let now = devices S.Source F.FirmwareStore K.Sink script.new store.new out.new in
+        ProgramEnds (status_of result) form before now yard.old yard.new }
     ensures read { reads_source (form_of (map (λ word. word.now) words.now)) ≡ true → IsReadAnswer (status_of result) → IsAtEnd (S.left script.new) }
     ensures taken { LosesFront (S.left script.old) (S.left script.new) (source_most (form_of (map (λ word. word.now) words.now))) }
     ensures unread { reads_source (form_of (map (λ word. word.now) words.now)) ≡ false → script.new ≡ script.old }
     ensures unasked { NeedsNoStore (form_of (map (λ word. word.now) words.now)) (S.left script.old) → store.new ≡ store.old }
-    ensures yard { let form = form_of (map (λ word. word.now) words.now) in
-        let before = devices (S.left script.old) (S.faults script.old) (F.images store.old) (F.faults store.old) (K.written out.old) (K.faults out.old) in
-        let now = devices (S.left script.new) (S.faults script.new) (F.images store.new) (F.faults store.new) (K.written out.new) (K.faults out.new) in
-        LeavesAs (status_of result) form before now yard.old yard.new }
     ensures unfilled { ¬ IsAtEnd (S.left script.new) → yard.new ≡ yard.old }
 {
     answer(rt, alloc, words, script, store, yard, out).number()
@@ -92,17 +84,13 @@ fn answer<R: Threads + Wait + Sync, S: Source, F: FirmwareStore, K: Sink>(
 ) -> Status
     requires { is_bare yard.old ≡ true }
     ensures ends { let form = form_of (map (λ word. word.now) words.now) in
-        let before = devices (S.left script.old) (S.faults script.old) (F.images store.old) (F.faults store.old) (K.written out.old) (K.faults out.old) in
-        let now = devices (S.left script.new) (S.faults script.new) (F.images store.new) (F.faults store.new) (K.written out.new) (K.faults out.new) in
-        Ends result form before now }
+        let before = devices S.Source F.FirmwareStore K.Sink script.old store.old out.old in
+        let now = devices S.Source F.FirmwareStore K.Sink script.new store.new out.new in
+        FormEnds result form before now yard.old yard.new }
     ensures read { reads_source (form_of (map (λ word. word.now) words.now)) ≡ true → IsReadEnd result → IsAtEnd (S.left script.new) }
     ensures taken { LosesFront (S.left script.old) (S.left script.new) (source_most (form_of (map (λ word. word.now) words.now))) }
     ensures unread { reads_source (form_of (map (λ word. word.now) words.now)) ≡ false → script.new ≡ script.old }
     ensures unasked { NeedsNoStore (form_of (map (λ word. word.now) words.now)) (S.left script.old) → store.new ≡ store.old }
-    ensures leaves { let form = form_of (map (λ word. word.now) words.now) in
-        let before = devices (S.left script.old) (S.faults script.old) (F.images store.old) (F.faults store.old) (K.written out.old) (K.faults out.old) in
-        let now = devices (S.left script.new) (S.faults script.new) (F.images store.new) (F.faults store.new) (K.written out.new) (K.faults out.new) in
-        Leaves result form before now yard.old yard.new }
     ensures unfilled { ¬ IsAtEnd (S.left script.new) → yard.new ≡ yard.old }
 {
     let Ok(asked) = read_words(alloc, words) else {
@@ -127,15 +115,12 @@ fn run_text<S: Source, F: FirmwareStore, K: Sink>(
     out: &mut K,
 ) -> Status
     requires { is_bare yard.old ≡ true }
-    ensures ends { let before = devices (S.left script.old) (S.faults script.old) (F.images store.old) (F.faults store.old) (K.written out.old) (K.faults out.old) in
-        let now = devices (S.left script.new) (S.faults script.new) (F.images store.new) (F.faults store.new) (K.written out.new) (K.faults out.new) in
-        Ends result run_form before now }
+    ensures ends { let before = devices S.Source F.FirmwareStore K.Sink script.old store.old out.old in
+        let now = devices S.Source F.FirmwareStore K.Sink script.new store.new out.new in
+        FormEnds result run_form before now yard.old yard.new }
     ensures read { IsReadEnd result → IsAtEnd (S.left script.new) }
     ensures taken { LosesFront (S.left script.old) (S.left script.new) (SCRIPT_MOST + 1) }
     ensures unasked { SourceAsksNone (S.left script.old) → store.new ≡ store.old }
-    ensures leaves { let before = devices (S.left script.old) (S.faults script.old) (F.images store.old) (F.faults store.old) (K.written out.old) (K.faults out.old) in
-        let now = devices (S.left script.new) (S.faults script.new) (F.images store.new) (F.faults store.new) (K.written out.new) (K.faults out.new) in
-        ScriptLeaves result before now yard.old yard.new }
     ensures unfilled { ¬ IsAtEnd (S.left script.new) → yard.new ≡ yard.old }
 {
     match read_front(alloc, script, SCRIPT_MOST) {

@@ -1,7 +1,8 @@
-ghost use Rattle.std.specs.Prelude.{◌≡◌, IfOk, IfErr};
-ghost use Rattle.script_run.specs.Endings.{IsFinal, IsReportOutput};
+ghost use Rattle.std.specs.Prelude.{◌≡◌, ℕ, List, Option, IfOk, IfErr};
+ghost use Rattle.script_run.specs.Outputs.{check as check_form};
+ghost use Rattle.script_run.specs.Endings.{Ends, IsFinal, IsReportOutput, devices, source_with};
 ghost use Rattle.command_run.specs.Fetches.{IsFetchFault};
-ghost use Rattle.script_run.specs.ImageReports.{IsChecked, made_output};
+ghost use Rattle.script_run.specs.ImageReports.{made_output};
 
 use crate::endings::{end_with, end_with_text};
 use crate::statuses::Status;
@@ -21,8 +22,8 @@ pub(crate) fn check<F: FirmwareStore, K: Sink>(
     out: &mut K,
 ) -> Status
     requires { name ≡ word.now }
-    ensures { IsChecked result name (F.images store.old) (F.faults store.old) (F.faults store.new)
-        (K.written out.old) (K.written out.new) (K.faults out.old) (K.faults out.new) }
+    ensures { (left : Option (List ℕ)) (faults : ℕ) → let at = devices (source_with left faults) F.FirmwareStore K.Sink tt in
+        Ends result (check_form name) (at store.old out.old) (at store.new out.new) }
 {
     match fetch_report(alloc, word, name, store) {
         Ok(report) => {

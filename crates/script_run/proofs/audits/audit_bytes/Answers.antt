@@ -10,12 +10,8 @@ returns-then-bytes-gt-TRANSCRIPT_MOST-clause-ends g c =
 
 pub returns-in-Ok-clause-ends : goal.returns-in-Ok-clause-ends
 returns-in-Ok-clause-ends g c =
-    let sink = g.K.Sink in
-    audit_written c.end_with-in-Ok.result (record { status = c.audit_status.result; text = report_text (c.audit_notice.result ∷ []) }) c.args.bytes.now c.in-Ok.answer
-    (sink.written c.args.out.now) (sink.written c.end_with-in-Ok.new.out) (sink.faults c.args.out.now) (sink.faults c.end_with-in-Ok.new.out)
+    audit_written c.end_with-in-Ok.result (record { status = c.audit_status.result; text = report_text (c.audit_notice.result ∷ []) }) _ c.in-Ok.answer _ _ _ _
     c.audit_status.ensures.status c.audit_notice.ensures c.if-bytes-gt-TRANSCRIPT_MOST.false c.in-Ok.ensures.exact c.end_with-in-Ok.ensures
 
 pub returns-in-Err-clause-ends : goal.returns-in-Err-clause-ends
-returns-in-Err-clause-ends g c =
-    let sink = g.K.Sink in
-    unaudited_ends c.args.bytes.now (sink.written c.args.out.now) (sink.faults c.args.out.now)
+returns-in-Err-clause-ends g c = unaudited_ends _ _ _
