@@ -16,7 +16,7 @@ use Rattle.link_bench.specs.declared.benches.BegunCall.{BegunCall}
 use Rattle.link_bench.specs.ActParts.{ActPart, Advances, Begins, Calls, Joins, Reclaims, Sees, act_parts, bench_after}
 use Rattle.link_bench.specs.BenchCrashes.{after_close}
 use Rattle.link_bench.specs.BenchEnds.{is_first, is_remote, without_one, without_other}
-use Rattle.link_bench.specs.Benches.{BenchState, advance_steps, begin_fault, begun_call_of, call_walk, is_in_call, link_in, start_walk}
+use Rattle.link_bench.specs.Benches.{BenchState, advance_steps, begun_call_of, call_walk, is_in_call, link_in, start_walk}
 use Rattle.link_bench.specs.Watchers.{Seeing}
 use Rattle.core_actors.specs.declared.actors.Actor.{Actor}
 use Rattle.core_actors.specs.declared.actors.Actor.TheVariants as actor
