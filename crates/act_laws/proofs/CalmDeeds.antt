@@ -18,17 +18,16 @@ use Rattle.link_bench.specs.BenchCrashes.{after_close}
 use Rattle.link_bench.specs.BenchEnds.{is_first, is_remote, without_one, without_other}
 use Rattle.link_bench.specs.Benches.{BenchState, advance_steps, begun_call_of, call_walk, is_in_call, link_in, start_walk}
 use Rattle.link_bench.specs.Watchers.{Seeing}
-use Rattle.core_actors.specs.declared.actors.Actor.{Actor}
-use Rattle.core_actors.specs.declared.actors.Actor.TheVariants as actor
 use Rattle.core_actors.specs.declared.progress.Driven.{Driven}
 use Rattle.core_actors.specs.declared.progress.Driven.TheVariants as driven
-use Rattle.core_actors.specs.ActorSteps.{first_or_take, has_calls}
+use Rattle.core_actors.specs.ActorSteps.{first_or_take}
 use Rattle.crash_recover.specs.declared.core_answers.Crash.{Crash}
 use Rattle.crash_recover.specs.declared.core_answers.Crash.TheVariants as crash
 use Rattle.crash_recover.specs.CoreCrashes.{report_of}
 use Rattle.crash_recover.specs.Cores.{CoreState}
-use Rattle.crash_recover.specs.Drives.{actor_to_step, is_idle, record_run, with_turn_after}
-use Rattle.act_laws.specs.CoreDeeds.{actor_deeds, actor_link_deeds, begun_deeds, crash_deeds, drive_deeds, link_deeds, one_remote, other_deeds, others_deeds, ready_deeds, record_deeds, remote_deeds, renewed_deeds, reported_deeds}
+use Rattle.crash_recover.specs.Drives.{DriveStep, placed_map, run_by}
+use Rattle.core_laws.proofs.DriveWalks.{HoldOfParts, drive_walk}
+use Rattle.act_laws.specs.CoreDeeds.{actor_link_deeds, begun_deeds, crash_deeds, drive_deeds, link_deeds, one_remote, other_deeds, others_deeds, ready_deeds, record_deeds, remote_deeds, renewed_deeds, reported_deeds}
 use Rattle.act_laws.specs.Deeds.{Deeds, act_deeds, advance_deeds, call_moves, caller_deeds, deeds_then, later_moves, no_deeds, one_move, part_deeds, parts_deeds, reclaim_deeds, whole_deeds}
 use Rattle.act_laws.proofs.Closes.{AllCloseNone}
 
@@ -94,10 +93,6 @@ link_open : (bench : BenchState) (caller : ℕ) (wanted : Wish) → CloseNone (l
 link_open bench caller wanted =
     either_open (is_in_call bench caller) (advance_deeds bench 0 0 caller (begun_call_of bench caller)) (begun_deeds bench caller wanted) (advance_open bench 0 0 caller (begun_call_of bench caller))
     (call_open ((start_walk bench 0 caller wanted).steps - 0) caller (link_in bench).era.inc wanted)
-
-actor_open : (found : Option BenchState) (caller : ℕ) (wanted : Wish) → CloseNone (actor_link_deeds found caller wanted)
-actor_open None caller wanted = tt
-actor_open (Some bench) caller wanted = link_open bench caller wanted
 
 -- nor a recovery
 renewed_open : (why : Option ReclaimRefusal) → CloseNone (renewed_deeds why)
@@ -166,18 +161,15 @@ module _ (end : End) where
     Open : CloseNone deeds → IsCalm deeds
     Silent : TellsNone deeds → IsCalm deeds
 
-  either_calm : (test : Bool) (one other : Deeds) → IsCalm one → IsCalm other → IsCalm (if test then one else other)
-  either_calm true one other first second = first
-  either_calm false one other first second = second
-
-  actor_calm : (who : Actor) (core : CoreState) → IsCalm (actor_deeds who core)
-  actor_calm actor.Host core = Open (actor_open core.bench 0 (first_or_take core.actors.host_calls))
-  actor_calm actor.Worker core =
-      let done = record_run core core.loaded in
-      either_calm (has_calls core.bench core.actors) (actor_link_deeds core.bench 1 (first_or_take core.actors.worker_calls)) (record_deeds done.driven done.core)
-      (Open (actor_open core.bench 1 (first_or_take core.actors.worker_calls))) (Silent (record_none done.driven done.core))
+  calm_parts : HoldOfParts no_deeds actor_link_deeds record_deeds (λ (core : CoreState). Unit {0}) (λ (step : DriveStep) (deeds : Deeds). IsCalm deeds)
+  calm_parts = record {
+    rest = λ core is. Open tt;
+    turn = λ who core is. tt;
+    host = λ core bench there may is. Open (link_open bench 0 (first_or_take core.actors.host_calls));
+    call = λ core bench there may is. Open (link_open bench 1 (first_or_take core.actors.worker_calls));
+    work = λ core load there silent is. let done = run_by core load (placed_map core.regions load) in Silent (record_none done.driven done.core);
+  }
 
   -- a step of the actors of a core
   pub drive_calm : (core : CoreState) → IsCalm (drive_deeds core)
-  drive_calm core =
-      either_calm (is_idle core) no_deeds (actor_deeds (actor_to_step core) (with_turn_after (actor_to_step core) core)) (Open tt) (actor_calm (actor_to_step core) (with_turn_after (actor_to_step core) core))
+  drive_calm core = drive_walk no_deeds actor_link_deeds record_deeds _ _ calm_parts core tt

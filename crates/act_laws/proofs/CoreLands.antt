@@ -1,6 +1,5 @@
 -- The deeds of a crash, of a recovery and of the actors of a core leave what these leave of its link.
-use Rattle.std.proofs.Common.{◌≡◌, ℕ, zero, suc, ◌+◌, ◌==◌, Bool, true, false, cond, List, Option, Some, None, IfSome, is_none, option_map, Result, Ok, Err, refl, sym, subst}
-use Rattle.std.proofs.lemmas.Bool.{or_parts, true≢false}
+use Rattle.std.proofs.Common.{◌≡◌, ℕ, zero, suc, ◌+◌, ◌==◌, Bool, true, false, cond, List, Option, Some, None, option_map, Result, Ok, Err, refl, sym, subst, ◌∙◌}
 use Rattle.rp_base.specs.declared.kinds.End.{End}
 use Rattle.rp_base.specs.declared.kinds.End.TheVariants as side
 use Rattle.proc_state.specs.declared.answers.LifeFault.{LifeFault}
@@ -20,22 +19,18 @@ use Rattle.link_bench.specs.BenchEnds.{bench_to_reopen, crashed_bench, is_first,
 use Rattle.link_bench.specs.Benches.{BenchState, BenchWalk, IsSendable, advance_walk, begun_call_of, is_in_call, link_in, start_walk}
 use Rattle.link_bench.proofs.Begun.{begin_may}
 use Rattle.link_bench.proofs.Lists.{reclaim_lists}
-use Rattle.core_actors.specs.declared.actors.Actor.{Actor}
-use Rattle.core_actors.specs.declared.actors.Actor.TheVariants as actor
 use Rattle.core_actors.specs.declared.progress.Driven.{Driven}
 use Rattle.core_actors.specs.declared.progress.Driven.TheVariants as driven
 use Rattle.crash_recover.specs.CoreCrashes.{first_report, report_as, report_of}
-use Rattle.crash_recover.specs.Cores.{CoreState, LoadState}
-use Rattle.core_actors.specs.ActorSteps.{first_or_take, has_calls, host_is_idle, link_step, worker_is_idle}
-use Rattle.core_actors.proofs.Begins.{host_begins, worker_begins}
-use Rattle.crash_recover.specs.Drives.{DriveStep, actor_step, actor_to_step, core_with_report, drive_step, host_step, is_idle, is_idle_actor, record_run, record_step, with_turn_after, worker_call}
-use Rattle.crash_recover.proofs.DriveSteps.{acting_busy}
+use Rattle.crash_recover.specs.Cores.{CoreState}
+use Rattle.core_actors.specs.ActorSteps.{first_or_take, link_step}
+use Rattle.crash_recover.specs.Drives.{DriveStep, core_with_report, drive_step, placed_map, run_by, step_with_report}
 use Rattle.core_laws.specs.BenchMoves.{IsReachedBench, IsReachedCore}
 use Rattle.core_laws.proofs.BenchMoves.{reclaimable_is_shut}
-use Rattle.core_laws.proofs.CoreMoves.{first_sendable}
-use Rattle.core_laws.proofs.DriveWalks.{MayGoOn}
+use Rattle.core_laws.proofs.CoreMoves.{first_sendable, reached_parts}
+use Rattle.core_laws.proofs.DriveWalks.{HoldOfParts, MayGoOn, both_known, drive_walk, of_link}
 use Rattle.crash_recover.proofs.KeptCrashes.{close_shut}
-use Rattle.act_laws.specs.CoreDeeds.{actor_deeds, actor_link_deeds, begun_deeds, crash_deeds, drive_deeds, link_deeds, one_remote, other_deeds, others_deeds, ready_deeds, record_deeds, remote_deeds, renewed_deeds, reported_deeds}
+use Rattle.act_laws.specs.CoreDeeds.{actor_link_deeds, begun_deeds, crash_deeds, drive_deeds, link_deeds, one_remote, other_deeds, others_deeds, ready_deeds, record_deeds, remote_deeds, renewed_deeds, reported_deeds}
 use Rattle.act_laws.specs.Deeds.{Deeds, advance_deeds, deeds_then, no_deeds, one_move}
 use Rattle.act_laws.proofs.ActLands.{LandsAt, advance_lands, begin_lands, stays, then_at}
 use Rattle.act_laws.proofs.Lands.{both_if}
@@ -155,11 +150,6 @@ report_lands may_step core = report_at may_step (life_after_crash core.life).lif
 
 -- ---- steps of the actors
 
--- under one test that is known where it is asked
-both_known : {A B : Type 0} (b : Bool) (P : A → B → Type 0) (one two : A) (first second : B) → (b ≡ true → P one first) → (b ≡ false → P two second) → P (cond b one two) (cond b first second)
-both_known true P one two first second is other = is refl
-both_known false P one two first second is other = other refl
-
 step_lands : (bench : BenchState) (caller : ℕ) (calls : List Wish) → MayGoOn bench caller calls → IsReachedBench bench → IsSendable (first_or_take calls)
     → LandsAt bench (link_deeds bench caller (first_or_take calls)) (link_step bench caller (first_or_take calls)).bench
 step_lands bench caller calls may reached sendable =
@@ -169,16 +159,6 @@ step_lands bench caller calls may reached sendable =
     (λ in_call. advance_lands bench 0 0 caller (begun_call_of bench caller) ((may_act bench reached).go caller in_call))
     (λ none. begin_lands bench 0 0 caller wanted (begin_may bench caller wanted sendable (may none)))
 
-host_lands : (core : CoreState) (found : Option BenchState) → core.bench ≡ found → host_is_idle found core.actors ≡ false → IsSendable (first_or_take core.actors.host_calls) → IfSome found IsReachedBench
-    → LandsIf found (actor_link_deeds found 0 (first_or_take core.actors.host_calls)) (host_step core found).core.bench
-host_lands core None none busy sendable reached = absurd (true≢false busy)
-host_lands core (Some bench) found busy sendable reached = step_lands bench 0 core.actors.host_calls (host_begins bench core.actors busy) reached sendable
-
-worker_lands : (core : CoreState) (found : Option BenchState) → core.bench ≡ found → worker_is_idle found core.actors ≡ false → IsSendable (first_or_take core.actors.worker_calls) → IfSome found IsReachedBench
-    → LandsIf found (actor_link_deeds found 1 (first_or_take core.actors.worker_calls)) (worker_call core found).core.bench
-worker_lands core None none busy sendable reached = subst (λ (now : Option BenchState). LandsIf None no_deeds now) (sym none) tt
-worker_lands core (Some bench) found busy sendable reached = step_lands bench 1 core.actors.worker_calls (worker_begins bench core.actors busy) reached sendable
-
 reported_lands : (came : Driven) (core : CoreState) → LandsIf core.bench (record_deeds came core) (core_with_report came core).bench
 reported_lands driven.Idle core = stays_if core.bench
 reported_lands driven.Stepped core = stays_if core.bench
@@ -186,27 +166,25 @@ reported_lands (driven.Ended caller end) core = stays_if core.bench
 reported_lands (driven.Worker fault closed) core = report_lands true core
 reported_lands (driven.Crashed kind closed) core = report_lands true core
 
-run_bench : (core : CoreState) (loaded : Option LoadState) → (record_run core loaded).core.bench ≡ core.bench
-run_bench core None = refl
-run_bench core (Some load) = refl
-
-record_lands : (core : CoreState) → LandsIf core.bench (record_deeds (record_run core core.loaded).driven (record_run core core.loaded).core) (record_step core).core.bench
-record_lands core =
-    let step = record_run core core.loaded in
-    subst (λ (found : Option BenchState). LandsIf found (record_deeds step.driven step.core) (record_step core).core.bench) (run_bench core core.loaded)
-    (reported_lands step.driven step.core)
-
-actor_lands : (who : Actor) (core : CoreState) → is_idle_actor core who ≡ false → IsReachedCore core → LandsIf core.bench (actor_deeds who core) (actor_step who core).core.bench
-actor_lands actor.Host core busy is = host_lands core core.bench refl busy (first_sendable core.actors.host_calls is.calls.host) is.bench
-actor_lands actor.Worker core busy is =
-    both_if (has_calls core.bench core.actors) (λ (step : DriveStep) (deeds : Deeds). LandsIf core.bench deeds step.core.bench) (worker_call core core.bench) (record_step core)
-    (actor_link_deeds core.bench 1 (first_or_take core.actors.worker_calls)) (record_deeds (record_run core core.loaded).driven (record_run core core.loaded).core)
-    (worker_lands core core.bench refl (or_parts (is_none core.loaded) (worker_is_idle core.bench core.actors) busy).1 (first_sendable core.actors.worker_calls is.calls.worker) is.bench) (record_lands core)
+-- beside each part of a step of the actors its deeds leave what the part leaves of the link
+lands_parts : (start : Option BenchState)
+    → HoldOfParts no_deeds actor_link_deeds record_deeds (λ (core : CoreState). (core.bench ≡ start) × IsReachedCore core) (λ (step : DriveStep) (deeds : Deeds). LandsIf start deeds step.core.bench)
+lands_parts start = record {
+  rest = λ core is. subst (LandsIf start no_deeds) (sym is.0) (stays_if start);
+  turn = λ who core is. (is.0, reached_parts.turn who core is.1);
+  host = λ core bench there may is.
+      let calls = core.actors.host_calls in
+      subst (λ (now : Option BenchState). LandsIf now (link_deeds bench 0 (first_or_take calls)) (Some (link_step bench 0 (first_or_take calls)).bench)) (sym there ∙ is.0)
+      (step_lands bench 0 calls may (of_link IsReachedBench core bench there is.1.bench) (first_sendable calls is.1.calls.host));
+  call = λ core bench there may is.
+      let calls = core.actors.worker_calls in
+      subst (λ (now : Option BenchState). LandsIf now (link_deeds bench 1 (first_or_take calls)) (Some (link_step bench 1 (first_or_take calls)).bench)) (sym there ∙ is.0)
+      (step_lands bench 1 calls may (of_link IsReachedBench core bench there is.1.bench) (first_sendable calls is.1.calls.worker));
+  work = λ core load there silent is.
+      let done = run_by core load (placed_map core.regions load) in
+      subst (λ (now : Option BenchState). LandsIf now (record_deeds done.driven done.core) (step_with_report done).core.bench) is.0 (reported_lands done.driven done.core);
+}
 
 -- one step of the actors of a core
 pub drive_lands : (core : CoreState) → IsReachedCore core → LandsIf core.bench (drive_deeds core) (drive_step core).core.bench
-drive_lands core is =
-    both_known (is_idle core) (λ (step : DriveStep) (deeds : Deeds). LandsIf core.bench deeds step.core.bench) (record { core = core; driven = driven.Idle })
-    (actor_step (actor_to_step core) (with_turn_after (actor_to_step core) core)) no_deeds (actor_deeds (actor_to_step core) (with_turn_after (actor_to_step core) core))
-    (λ _. stays_if core.bench)
-    (λ busy. actor_lands (actor_to_step core) (with_turn_after (actor_to_step core) core) (acting_busy core busy) (record { bench = is.bench; calls = record { host = is.calls.host; worker = is.calls.worker } }))
+drive_lands core is = drive_walk no_deeds actor_link_deeds record_deeds _ _ (lands_parts core.bench) core (refl, is)

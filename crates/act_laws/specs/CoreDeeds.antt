@@ -15,16 +15,13 @@ use Rattle.link_bench.specs.BenchCrashes.{after_close}
 use Rattle.link_bench.specs.BenchEnds.{is_first, is_remote, without_one, without_other}
 use Rattle.link_bench.specs.declared.benches.Reach.TheVariants as reach
 use Rattle.link_bench.specs.Benches.{BenchState, begun_call_of, is_in_call, link_in, start_walk}
-use Rattle.core_actors.specs.declared.actors.Actor.{Actor}
-use Rattle.core_actors.specs.declared.actors.Actor.TheVariants as actor
 use Rattle.crash_recover.specs.declared.core_answers.Crash.{Crash}
 use Rattle.crash_recover.specs.declared.core_answers.Crash.TheVariants as crash
 use Rattle.core_actors.specs.declared.progress.Driven.{Driven}
 use Rattle.core_actors.specs.declared.progress.Driven.TheVariants as driven
 use Rattle.crash_recover.specs.CoreCrashes.{report_of}
 use Rattle.crash_recover.specs.Cores.{CoreState}
-use Rattle.core_actors.specs.ActorSteps.{first_or_take, has_calls}
-use Rattle.crash_recover.specs.Drives.{actor_to_step, is_idle, record_run, with_turn_after}
+use Rattle.core_laws.specs.DriveParts.{beside_drive}
 use Rattle.act_laws.specs.Deeds.{Deeds, advance_deeds, call_moves, deeds_then, no_deeds, one_move, reach_takes, walk_deeds}
 
 -- ---- a crash
@@ -96,16 +93,9 @@ record_deeds driven.Idle core = no_deeds
 record_deeds driven.Stepped core = no_deeds
 record_deeds (driven.Ended caller end) core = no_deeds
 
--- a step of an actor
-abbrev pub actor_deeds : Actor → CoreState → Deeds
-actor_deeds actor.Host core = actor_link_deeds core.bench 0 (first_or_take core.actors.host_calls)
-actor_deeds actor.Worker core =
-    if has_calls core.bench core.actors then actor_link_deeds core.bench 1 (first_or_take core.actors.worker_calls)
-    else record_deeds (record_run core core.loaded).driven (record_run core core.loaded).core
-
 -- one step of the actors of a core
 abbrev pub drive_deeds : CoreState → Deeds
-drive_deeds core = if is_idle core then no_deeds else actor_deeds (actor_to_step core) (with_turn_after (actor_to_step core) core)
+drive_deeds core = beside_drive no_deeds actor_link_deeds record_deeds core
 
 -- what a step of the actors that was this tells of takes at an end, on the link that it left: the handing where it ended a call as a take
 abbrev pub driven_takes : Driven → Option BenchState → End → List Handing

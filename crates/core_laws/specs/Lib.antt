@@ -4,3 +4,4 @@ pub mod PendingCalls
 pub mod FoundImages
 pub mod Beginnings
 pub mod ClosedLinks
+pub mod DriveParts

@@ -28,7 +28,7 @@ use Rattle.crash_recover.specs.Cores.{CoreState, LoadState}
 use Rattle.crash_recover.specs.Drives.{DriveStep, closed_by, core_with_report, drive_step, driven_with_report, host_step, placed_map, run_by, step_with_report, worker_call}
 use Rattle.core_laws.specs.BenchMoves.{IsReachedBench, IsReachedCore}
 use Rattle.core_laws.proofs.CoreMoves.{first_sendable, reached_parts}
-use Rattle.core_laws.proofs.DriveWalks.{HoldOfParts, MayGoOn, drive_walk, of_link}
+use Rattle.core_laws.proofs.DriveWalks.{HoldOfSteps, MayGoOn, of_link, step_walk}
 use Rattle.field_laws.specs.Fields.{IsFieldWish}
 use Rattle.field_laws.specs.FieldBenches.{IsFieldAct, IsFieldActed, IsFieldBench, IsFieldReach}
 use Rattle.field_laws.specs.FieldCores.{AreFieldCalls, IsFieldCore, IsFieldCrash, IsFieldDriven, IsFieldLoad, IsFieldPlaced}
@@ -146,7 +146,7 @@ record HoldsCore (core : CoreState) : Type 0 where
   pub reached : IsReachedCore core
   pub fields : IsFieldCore core
 
-drive_parts : HoldOfParts HoldsCore HoldsDrive
+drive_parts : HoldOfSteps HoldsCore HoldsDrive
 drive_parts = record {
   rest = λ core is. record { core = is.fields; driven = tt };
   turn = λ who core is.
@@ -161,7 +161,7 @@ drive_parts = record {
 }
 
 pub drive_fields : (core : CoreState) → IsReachedCore core → IsFieldCore core → HoldsDrive (drive_step core)
-drive_fields core reached is = drive_walk HoldsCore HoldsDrive drive_parts core (record { reached = reached; fields = is })
+drive_fields core reached is = step_walk HoldsCore HoldsDrive drive_parts core (record { reached = reached; fields = is })
 
 -- ---- acts on the link of a core
 

@@ -10,13 +10,12 @@ use Rattle.link_bench.specs.declared.benches.BegunCall.{BegunCall}
 use Rattle.link_bench.specs.declared.benches.Reach.{Reach}
 use Rattle.link_bench.specs.declared.benches.Reach.TheVariants as reach
 use Rattle.link_bench.specs.Benches.{BenchState, BenchWalk, advance_steps, advance_walk, begun_call_of, is_in_call, link_in, start_walk}
-use Rattle.core_actors.specs.declared.actors.Actor.{Actor}
-use Rattle.core_actors.specs.declared.actors.Actor.TheVariants as actor
-use Rattle.core_actors.specs.ActorSteps.{drive_of_reach, drive_of_work, first_or_take, has_calls, link_step}
+use Rattle.core_actors.specs.ActorSteps.{drive_of_reach, drive_of_work, first_or_take, link_step}
 use Rattle.crash_recover.specs.CoreCrashes.{report_of}
-use Rattle.crash_recover.specs.Cores.{CoreState, LoadState}
-use Rattle.crash_recover.specs.Drives.{DriveStep, actor_step, actor_to_step, after_record, core_with_report, drive_step, driven_with_report, host_step, is_idle, placed_map, record_run, record_step, step_with_report, with_turn_after, worker_call}
-use Rattle.act_laws.specs.CoreDeeds.{actor_deeds, actor_link_deeds, begun_deeds, drive_deeds, driven_takes, link_deeds, record_deeds}
+use Rattle.crash_recover.specs.Cores.{CoreState}
+use Rattle.crash_recover.specs.Drives.{DriveStep, after_record, core_with_report, drive_step, driven_with_report, placed_map}
+use Rattle.core_laws.proofs.DriveWalks.{HoldOfParts, drive_walk}
+use Rattle.act_laws.specs.CoreDeeds.{actor_link_deeds, begun_deeds, drive_deeds, driven_takes, link_deeds, record_deeds}
 use Rattle.act_laws.proofs.CalmDeeds.{reported_none}
 use Rattle.act_laws.specs.Deeds.{Deeds, advance_deeds, no_deeds, reach_takes}
 
@@ -53,14 +52,6 @@ module _ (end : End) where
 
   -- ---- a step of an actor
 
-  host_told : (core : CoreState) (found : Option BenchState) → IsToldBy (host_step core found) (actor_link_deeds found 0 (first_or_take core.actors.host_calls))
-  host_told core None = refl
-  host_told core (Some bench) = link_told bench 0 (first_or_take core.actors.host_calls)
-
-  call_told : (core : CoreState) (found : Option BenchState) → IsToldBy (worker_call core found) (actor_link_deeds found 1 (first_or_take core.actors.worker_calls))
-  call_told core None = refl
-  call_told core (Some bench) = link_told bench 1 (first_or_take core.actors.worker_calls)
-
   work_told : (core : CoreState) (done : Work) → (record_deeds (drive_of_work done) core).takes end ≡ driven_takes (driven_with_report (drive_of_work done) core) (core_with_report (drive_of_work done) core).bench end
   work_told core work.Nothing = refl
   work_told core (work.Ask wanted) = refl
@@ -68,19 +59,16 @@ module _ (end : End) where
   work_told core (work.Crash kind) = reported_none end (report_of true core).answer core.bench
   work_told core (work.Fault why) = reported_none end (report_of true core).answer core.bench
 
-  record_told : (core : CoreState) (found : Option LoadState) → IsToldBy (step_with_report (record_run core found)) (record_deeds (record_run core found).driven (record_run core found).core)
-  record_told core None = refl
-  record_told core (Some load) =
-      let map = placed_map core.regions load in work_told (after_record core load map) (work_of load.memory map (is_some core.bench) core.actors.worker)
-
-  actor_told : (who : Actor) (core : CoreState) → IsToldBy (actor_step who core) (actor_deeds who core)
-  actor_told actor.Host core = host_told core core.bench
-  actor_told actor.Worker core =
-      both IsToldBy (has_calls core.bench core.actors) (worker_call core core.bench) (record_step core) (actor_link_deeds core.bench 1 (first_or_take core.actors.worker_calls)) _
-      (call_told core core.bench) (record_told core core.loaded)
+  told_parts : HoldOfParts no_deeds actor_link_deeds record_deeds (λ (core : CoreState). Unit {0}) IsToldBy
+  told_parts = record {
+    rest = λ core is. refl;
+    turn = λ who core is. tt;
+    host = λ core bench there may is. link_told bench 0 (first_or_take core.actors.host_calls);
+    call = λ core bench there may is. link_told bench 1 (first_or_take core.actors.worker_calls);
+    work = λ core load there silent is.
+        let map = placed_map core.regions load in work_told (after_record core load map) (work_of load.memory map (is_some core.bench) core.actors.worker);
+  }
 
   -- what a step of the actors of a core tells of takes
   pub drive_told : (core : CoreState) → IsToldBy (drive_step core) (drive_deeds core)
-  drive_told core =
-      both IsToldBy (is_idle core) _ (actor_step (actor_to_step core) (with_turn_after (actor_to_step core) core)) no_deeds (actor_deeds (actor_to_step core) (with_turn_after (actor_to_step core) core))
-      refl (actor_told (actor_to_step core) (with_turn_after (actor_to_step core) core))
+  drive_told core = drive_walk no_deeds actor_link_deeds record_deeds _ _ told_parts core tt

@@ -1,7 +1,7 @@
 -- A step of a core's actors that ended a call as a take tells of one handing, whose line is that of the call.
-use Rattle.std.proofs.Common.{◌≡◌, ℕ, List, [], Option, Some, None, IfSome, false, is_none, is_some, refl, sym, ap, subst, ◌∙◌}
+use Rattle.std.proofs.Common.{◌≡◌, ℕ, List, [], Option, Some, None, IfSome, is_some, refl, sym, ap, subst, ◌∙◌}
 use Rattle.std.specs.Option.{IsSomeAnd}
-use Rattle.std.proofs.lemmas.Bool.{cond_both, or_parts}
+use Rattle.std.proofs.lemmas.Bool.{cond_both}
 use Rattle.rp_base.specs.declared.kinds.End.{End}
 use Rattle.rp_base.specs.declared.kinds.Verdict.{Verdict}
 use Rattle.lane_model.specs.declared.calls.CallEnd.TheVariants as ended
@@ -18,18 +18,14 @@ use Rattle.link_bench.specs.declared.benches.Reach.{Reach}
 use Rattle.link_bench.specs.declared.benches.Reach.TheVariants as reach
 use Rattle.link_bench.specs.Benches.{BenchState, BenchWalk, IsSendable, advance_walk, begun_call_of, is_in_call, link_in, start_walk}
 use Rattle.link_bench.proofs.Begun.{begin_may}
-use Rattle.core_actors.specs.declared.actors.Actor.{Actor}
-use Rattle.core_actors.specs.declared.actors.Actor.TheVariants as actor
 use Rattle.core_actors.specs.declared.progress.Driven.{Driven}
 use Rattle.core_actors.specs.declared.progress.Driven.TheVariants as driven
-use Rattle.core_actors.specs.ActorSteps.{drive_of_reach, drive_of_work, first_or_take, has_calls, host_is_idle, link_step, worker_is_idle}
-use Rattle.core_actors.proofs.Begins.{host_begins, worker_begins}
-use Rattle.crash_recover.specs.Cores.{CoreState, LoadState}
-use Rattle.crash_recover.specs.Drives.{DriveStep, actor_step, actor_to_step, after_record, drive_step, host_step, is_idle, is_idle_actor, placed_map, record_run, record_step, step_with_report, with_turn_after, worker_call}
-use Rattle.crash_recover.proofs.DriveSteps.{acting_busy}
+use Rattle.core_actors.specs.ActorSteps.{drive_of_reach, drive_of_work, first_or_take, link_step}
+use Rattle.crash_recover.specs.Cores.{CoreState}
+use Rattle.crash_recover.specs.Drives.{DriveStep, after_record, drive_step, placed_map, step_with_report}
 use Rattle.core_laws.specs.BenchMoves.{IsReachedBench, IsReachedCore}
-use Rattle.core_laws.proofs.CoreMoves.{first_sendable}
-use Rattle.core_laws.proofs.DriveWalks.{MayGoOn}
+use Rattle.core_laws.proofs.CoreMoves.{first_sendable, reached_parts}
+use Rattle.core_laws.proofs.DriveWalks.{HoldOfSteps, MayGoOn, of_link, step_walk}
 use Rattle.act_laws.specs.CoreDeeds.{drive_deeds, driven_takes}
 use Rattle.act_laws.specs.Deeds.{Deeds}
 use Rattle.act_laws.proofs.ActLands.{LandsAt}
@@ -76,14 +72,6 @@ link_once bench caller calls may known sendable =
 
 -- ---- a step of an actor
 
-host_once : (core : CoreState) (found : Option BenchState) → host_is_idle found core.actors ≡ false → IfSome found IsKnown → IsSendable (first_or_take core.actors.host_calls) → StepOnce (host_step core found)
-host_once core None busy known sendable = tt
-host_once core (Some bench) busy known sendable = link_once bench 0 core.actors.host_calls (host_begins bench core.actors busy) known sendable
-
-call_once : (core : CoreState) (found : Option BenchState) → worker_is_idle found core.actors ≡ false → IfSome found IsKnown → IsSendable (first_or_take core.actors.worker_calls) → StepOnce (worker_call core found)
-call_once core None busy known sendable = tt
-call_once core (Some bench) busy known sendable = link_once bench 1 core.actors.worker_calls (worker_begins bench core.actors busy) known sendable
-
 work_once : (core : CoreState) (done : Work) → StepOnce (step_with_report (record { core = core; driven = drive_of_work done }))
 work_once core work.Nothing = tt
 work_once core (work.Ask wanted) = tt
@@ -91,26 +79,22 @@ work_once core work.Halted = tt
 work_once core (work.Crash kind) = tt
 work_once core (work.Fault why) = tt
 
-record_once : (core : CoreState) (found : Option LoadState) → StepOnce (step_with_report (record_run core found))
-record_once core None = tt
-record_once core (Some load) =
-    let map = placed_map core.regions load in work_once (after_record core load map) (work_of load.memory map (is_some core.bench) core.actors.worker)
-
-actor_once : (who : Actor) (core : CoreState) → is_idle_actor core who ≡ false → IsReachedCore core → IfSome core.bench IsKnown → StepOnce (actor_step who core)
-actor_once actor.Host core busy is known = host_once core core.bench busy known (first_sendable core.actors.host_calls is.calls.host)
-actor_once actor.Worker core busy is known =
-    cond_both (has_calls core.bench core.actors) (worker_call core core.bench) (record_step core) StepOnce
-    (λ _. call_once core core.bench (or_parts (is_none core.loaded) (worker_is_idle core.bench core.actors) busy).1 known (first_sendable core.actors.worker_calls is.calls.worker)) (λ _. record_once core core.loaded)
+once_parts : HoldOfSteps (λ (core : CoreState). IsReachedCore core × IfSome core.bench IsKnown) StepOnce
+once_parts = record {
+  rest = λ core is. tt;
+  turn = λ who core is. (reached_parts.turn who core is.0, is.1);
+  host = λ core bench there may is. link_once bench 0 core.actors.host_calls may (of_link IsKnown core bench there is.1) (first_sendable core.actors.host_calls is.0.calls.host);
+  call = λ core bench there may is. link_once bench 1 core.actors.worker_calls may (of_link IsKnown core bench there is.1) (first_sendable core.actors.worker_calls is.0.calls.worker);
+  work = λ core load there silent is.
+      let map = placed_map core.regions load in work_once (after_record core load map) (work_of load.memory map (is_some core.bench) core.actors.worker);
+}
 
 known_if : (found : Option BenchState) → IfSome found IsReachedBench → IfSome found (λ (bench : BenchState). ComesFromOpening (link_in bench)) → IfSome found IsKnown
 known_if None reached comes = tt
 known_if (Some bench) reached comes = record { reached = reached; comes = comes }
 
 pub drive_once : (core : CoreState) → IsReachedCore core → IfSome core.bench (λ (bench : BenchState). ComesFromOpening (link_in bench)) → StepOnce (drive_step core)
-drive_once core is comes =
-    cond_both (is_idle core) (record { core = core; driven = driven.Idle }) (actor_step (actor_to_step core) (with_turn_after (actor_to_step core) core)) StepOnce (λ _. tt)
-    (λ busy. actor_once (actor_to_step core) (with_turn_after (actor_to_step core) core) (acting_busy core busy) (record { bench = is.bench; calls = record { host = is.calls.host; worker = is.calls.worker } })
-    (known_if core.bench is.bench comes))
+drive_once core is comes = step_walk _ StepOnce once_parts core (is, known_if core.bench is.bench comes)
 
 -- ---- what it tells
 
