@@ -166,10 +166,10 @@ not_none false false has silent = refl
 not_none false true has silent = absurd (false≢true has)
 not_none true empty has silent = absurd (true≢false silent)
 
-halts : (in_call halted waits : Bool) → (not in_call && (halted || waits)) ≡ false → in_call ≡ false → halted ≡ false
-halts true halted waits busy silent = absurd (true≢false silent)
-halts false true waits busy silent = absurd (true≢false busy)
-halts false false waits busy silent = refl
+halts : (in_call halted waits held : Bool) → (not in_call && (halted || waits || held)) ≡ false → in_call ≡ false → halted ≡ false
+halts true halted waits held busy silent = absurd (true≢false silent)
+halts false true waits held busy silent = absurd (true≢false busy)
+halts false false waits held busy silent = refl
 
 message_comes : (in_call halted takes drained held : Bool) → (not in_call && (halted || (takes && drained) || held)) ≡ false → in_call ≡ false → takes ≡ true → drained ≡ false
 message_comes true halted takes drained held busy silent taking = absurd (true≢false silent)
@@ -233,7 +233,7 @@ module _ (Fits : WorkerState → Type 0) (records credit : WorkerState → ℕ) 
         (λ _. subst (λ (walk : Walk (LaneState EndState)). HostStays true (walk_over bench walk)) (sym (later_lists 1 0 0 bench.rings 0 ∙ later_is (link_in bench) 0 side.Host own.host))
         (host_after_later _ _
         (host_later (records actors.worker) (credit actors.worker) actors.host_calls actors.is_taking actors.worker_calls (link_in bench) within (reached_sound (link_in bench) reached.link) live is wanted now)))
-        (λ no. absurd (true≢false no)) (λ no. absurd (true≢false no))
+        (λ no. absurd (true≢false no))
     host_walk true calls None now waits = absurd (true≢false (sym calls ∙ host_call ∙ ap is_some now))
     host_walk false calls (Some wanted) now waits = absurd (false≢true (sym calls ∙ host_call ∙ ap is_some now))
     host_walk false calls None now waits =
@@ -287,7 +287,7 @@ module _ (Fits : WorkerState → Type 0) (records credit : WorkerState → ℕ) 
           (λ _. subst (λ (walk : Walk (LaneState EndState)). WorkerStays (walk_over bench walk)) (sym (later_lists 1 0 0 bench.rings 1 ∙ later_is (link_in bench) 1 side.Remote own.remote))
           (worker_after_later _ _
           (worker_later (records actors.worker) (credit actors.worker) actors.host_calls actors.is_taking actors.worker_calls (link_in bench) within (reached_sound (link_in bench) reached.link) live is wanted now)))
-          (λ no. absurd (true≢false no)) (λ no. absurd (true≢false no))
+          (λ no. absurd (true≢false no))
       worker_walk true calls None now some waits = absurd (true≢false (sym calls ∙ worker_in_call ∙ ap is_some now))
       worker_walk false calls (Some wanted) now some waits = absurd (false≢true (sym calls ∙ worker_in_call ∙ ap is_some now))
       worker_walk false calls None now some waits =
@@ -488,7 +488,7 @@ module _ (Fits : WorkerState → Type 0) (records credit : WorkerState → ℕ) 
     going_on None none busy = busy
     going_on (Some bench) none busy =
         let parts = or_parts (is_in_call bench 1) _ none in
-        halts (is_in_call bench 1) core.actors.worker.is_halted ((begins_with_take core.actors.worker_calls && is_drained bench 1) || is_held_up bench 1 core.actors.worker_calls) busy parts.0
+        halts (is_in_call bench 1) core.actors.worker.is_halted (begins_with_take core.actors.worker_calls && is_drained bench 1) (is_held_up bench 1 core.actors.worker_calls) busy parts.0
 
     worker_came : worker_is_idle core.bench core.actors ≡ false → IfSome core.bench IsReachedBench → IfSome core.bench (IsKeptBench core.life)
         → IfSome core.bench HasNoneBegun → IfSome core.bench (IsReadyBench core.actors) → OnLink core.actors core.bench within → Came core within (worker_step core).core
