@@ -165,9 +165,9 @@ module _ (end : End) where
   calm_parts = record {
     rest = λ core is. Open tt;
     turn = λ who core is. tt;
-    host = λ core bench there may is. Open (link_open bench 0 (first_or_take core.actors.host_calls));
-    call = λ core bench there may is. Open (link_open bench 1 (first_or_take core.actors.worker_calls));
-    work = λ core load there silent is. let done = run_by core load (placed_map core.regions load) in Silent (record_none done.driven done.core);
+    host = λ core bench there busy is. Open (link_open bench 0 (first_or_take core.actors.host_calls));
+    call = λ core bench there busy is. Open (link_open bench 1 (first_or_take core.actors.worker_calls));
+    work = λ core load there silent busy is. let done = run_by core load (placed_map core.regions load) in Silent (record_none done.driven done.core);
   }
 
   -- a step of the actors of a core

@@ -16,19 +16,20 @@ use Rattle.lane_laws.proofs.LinkRuns.{move_shut}
 use Rattle.channel_bus.specs.Sides.{EndState, side_meaning}
 use Rattle.link_bench.specs.BenchCrashes.{after_close, after_reclaim}
 use Rattle.link_bench.specs.BenchEnds.{bench_to_reopen, crashed_bench, is_first, is_remote, with_fresh_caller, with_new_host_unless, without_one, without_other, without_others, without_remote}
-use Rattle.link_bench.specs.Benches.{BenchState, BenchWalk, IsSendable, advance_walk, begun_call_of, is_in_call, link_in, start_walk}
-use Rattle.link_bench.proofs.Begun.{begin_may}
+use Rattle.link_bench.specs.Benches.{BenchState, BenchWalk, advance_walk, begun_call_of, is_in_call, link_in, start_walk}
 use Rattle.link_bench.proofs.Lists.{reclaim_lists}
 use Rattle.core_actors.specs.declared.progress.Driven.{Driven}
 use Rattle.core_actors.specs.declared.progress.Driven.TheVariants as driven
 use Rattle.crash_recover.specs.CoreCrashes.{first_report, report_as, report_of}
 use Rattle.crash_recover.specs.Cores.{CoreState}
 use Rattle.core_actors.specs.ActorSteps.{first_or_take, link_step}
+use Rattle.core_actors.proofs.ReadyActors.{MayBegin}
 use Rattle.crash_recover.specs.Drives.{DriveStep, core_with_report, drive_step, placed_map, run_by, step_with_report}
 use Rattle.core_laws.specs.BenchMoves.{IsReachedBench, IsReachedCore}
 use Rattle.core_laws.proofs.BenchMoves.{reclaimable_is_shut}
-use Rattle.core_laws.proofs.CoreMoves.{first_sendable, reached_parts}
-use Rattle.core_laws.proofs.DriveWalks.{HoldOfParts, MayGoOn, both_known, drive_walk, of_link}
+use Rattle.core_laws.specs.DriveParts.{MayDrive}
+use Rattle.core_laws.proofs.CoreMoves.{StandsReady, host_may, link_reached, turned_stands, worker_may}
+use Rattle.core_laws.proofs.DriveWalks.{HoldOfParts, both_known, drive_walk}
 use Rattle.crash_recover.proofs.KeptCrashes.{close_shut}
 use Rattle.act_laws.specs.CoreDeeds.{actor_link_deeds, begun_deeds, crash_deeds, drive_deeds, link_deeds, one_remote, other_deeds, others_deeds, ready_deeds, record_deeds, remote_deeds, renewed_deeds, reported_deeds}
 use Rattle.act_laws.specs.Deeds.{Deeds, advance_deeds, deeds_then, no_deeds, one_move}
@@ -150,14 +151,14 @@ report_lands may_step core = report_at may_step (life_after_crash core.life).lif
 
 -- ---- steps of the actors
 
-step_lands : (bench : BenchState) (caller : ℕ) (calls : List Wish) → MayGoOn bench caller calls → IsReachedBench bench → IsSendable (first_or_take calls)
+step_lands : (bench : BenchState) (caller : ℕ) (calls : List Wish) → MayBegin bench caller calls → IsReachedBench bench
     → LandsAt bench (link_deeds bench caller (first_or_take calls)) (link_step bench caller (first_or_take calls)).bench
-step_lands bench caller calls may reached sendable =
+step_lands bench caller calls may reached =
     let wanted = first_or_take calls in
     both_known (is_in_call bench caller) (λ (walk : BenchWalk) (deeds : Deeds). LandsAt bench deeds walk.bench) (advance_walk bench 0 0 caller) (start_walk bench 0 caller wanted)
     (advance_deeds bench 0 0 caller (begun_call_of bench caller)) (begun_deeds bench caller wanted)
     (λ in_call. advance_lands bench 0 0 caller (begun_call_of bench caller) ((may_act bench reached).go caller in_call))
-    (λ none. begin_lands bench 0 0 caller wanted (begin_may bench caller wanted sendable (may none)))
+    (λ none. begin_lands bench 0 0 caller wanted (may none))
 
 reported_lands : (came : Driven) (core : CoreState) → LandsIf core.bench (record_deeds came core) (core_with_report came core).bench
 reported_lands driven.Idle core = stays_if core.bench
@@ -168,23 +169,23 @@ reported_lands (driven.Crashed kind closed) core = report_lands true core
 
 -- beside each part of a step of the actors its deeds leave what the part leaves of the link
 lands_parts : (start : Option BenchState)
-    → HoldOfParts no_deeds actor_link_deeds record_deeds (λ (core : CoreState). (core.bench ≡ start) × IsReachedCore core) (λ (step : DriveStep) (deeds : Deeds). LandsIf start deeds step.core.bench)
+    → HoldOfParts no_deeds actor_link_deeds record_deeds (λ (core : CoreState). (core.bench ≡ start) × StandsReady core) (λ (step : DriveStep) (deeds : Deeds). LandsIf start deeds step.core.bench)
 lands_parts start = record {
   rest = λ core is. subst (LandsIf start no_deeds) (sym is.0) (stays_if start);
-  turn = λ who core is. (is.0, reached_parts.turn who core is.1);
-  host = λ core bench there may is.
+  turn = λ who core is. (is.0, turned_stands who core is.1);
+  host = λ core bench there busy is.
       let calls = core.actors.host_calls in
       subst (λ (now : Option BenchState). LandsIf now (link_deeds bench 0 (first_or_take calls)) (Some (link_step bench 0 (first_or_take calls)).bench)) (sym there ∙ is.0)
-      (step_lands bench 0 calls may (of_link IsReachedBench core bench there is.1.bench) (first_sendable calls is.1.calls.host));
-  call = λ core bench there may is.
+      (step_lands bench 0 calls (host_may core bench there is.1) (link_reached core bench there is.1));
+  call = λ core bench there busy is.
       let calls = core.actors.worker_calls in
       subst (λ (now : Option BenchState). LandsIf now (link_deeds bench 1 (first_or_take calls)) (Some (link_step bench 1 (first_or_take calls)).bench)) (sym there ∙ is.0)
-      (step_lands bench 1 calls may (of_link IsReachedBench core bench there is.1.bench) (first_sendable calls is.1.calls.worker));
-  work = λ core load there silent is.
+      (step_lands bench 1 calls (worker_may core bench there is.1) (link_reached core bench there is.1));
+  work = λ core load there silent busy is.
       let done = run_by core load (placed_map core.regions load) in
       subst (λ (now : Option BenchState). LandsIf now (record_deeds done.driven done.core) (step_with_report done).core.bench) is.0 (reported_lands done.driven done.core);
 }
 
 -- one step of the actors of a core
-pub drive_lands : (core : CoreState) → IsReachedCore core → LandsIf core.bench (drive_deeds core) (drive_step core).core.bench
-drive_lands core is = drive_walk no_deeds actor_link_deeds record_deeds _ _ (lands_parts core.bench) core (refl, is)
+pub drive_lands : (core : CoreState) → MayDrive core → IsReachedCore core → LandsIf core.bench (drive_deeds core) (drive_step core).core.bench
+drive_lands core may reached = drive_walk no_deeds actor_link_deeds record_deeds _ _ (lands_parts core.bench) core (refl, record { may = may; reached = reached })

@@ -9,10 +9,11 @@ use Rattle.link_bench.specs.Benches.{BenchState, IsSendable, begun_call_of, is_i
 use Rattle.link_bench.specs.Watchers.{Seeing}
 use Rattle.link_bench.proofs.ActParts.{Does, Done, Then}
 use Rattle.link_bench.proofs.ActWalks.{act_done}
+use Rattle.link_bench.proofs.FitCalls.{begun_at, begun_or, calling_may}
+use Rattle.link_bench.proofs.SendableActs.{calls_sendable}
 use Rattle.core_laws.specs.BenchMoves.{IsReachedBench}
-use Rattle.core_laws.proofs.BenchMoves.{begun_at, begun_or, calling_may, reclaimable_is_shut}
+use Rattle.core_laws.proofs.BenchMoves.{reclaimable_is_shut}
 use Rattle.core_laws.proofs.CoreActs.{part_reached}
-use Rattle.core_laws.proofs.SendableActs.{calls_sendable}
 use Rattle.act_laws.specs.Deeds.{act_deeds, part_deeds, parts_deeds}
 use Rattle.act_laws.proofs.ActLands.{LandsAt, MayAct, MayGo, part_lands, stays, then_at}
 

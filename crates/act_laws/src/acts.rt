@@ -20,6 +20,7 @@ ghost use Rattle.core_actors.specs.ActorEnds.{actors_after_end};
 ghost use Rattle.crash_recover.specs.Drives.{drive_step};
 ghost use Rattle.core_laws.specs.BenchMoves.{ComesBy, IsReachedBench, IsReachedCore};
 ghost use Rattle.core_laws.specs.ClosedLinks.{StaysClosed};
+ghost use Rattle.core_laws.specs.DriveParts.{MayDrive};
 ghost use Rattle.act_laws.specs.CoreDeeds.{crash_deeds, drive_deeds, ready_deeds};
 ghost use Rattle.act_laws.specs.Deeds.{act_deeds, one_move};
 ghost use Rattle.act_laws.specs.DoneDeeds.{AreDone};
@@ -47,9 +48,9 @@ pub fn acts_are_moves()
         → (link_in bench).era.is_live ≡ false → StaysClosed (link_in bench) (link_in (link_act actors_after_end own bench actors steps asked).bench) }
 {}
 
-/// The same of the link of a core: of one step of its actors, of the crash of its remote end, and of the new host caller that a recovery makes.
+/// The same of the link of a core: of one step of its actors where they may make it, of the crash of its remote end, and of the new host caller that a recovery makes.
 pub fn cores_do()
-    ensures drive { (core : CoreState) (bench left : BenchState) → IsReachedCore core → core.bench ≡ Some bench
+    ensures drive { (core : CoreState) (bench left : BenchState) → MayDrive core → IsReachedCore core → core.bench ≡ Some bench
         → (drive_step core).core.bench ≡ Some left → AreDone bench (drive_deeds core) left }
     ensures crash { (bench : BenchState) → AreDone bench (crash_deeds bench) (crashed_bench bench) }
     ensures ready { (bench : BenchState) → AreDone bench (ready_deeds bench) (bench_to_reopen bench) }

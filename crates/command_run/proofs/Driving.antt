@@ -1,12 +1,19 @@
 -- A drive, step by step.
 use Rattle.std.proofs.Common.{◌≡◌, ◌⊎◌, inl, inr, ◌≤◌, length, ℕ, zero, suc, ◌+◌, ◌==◌, Bool, true, false, cond, not, ◌||◌, List, [], ◌∷◌, ◌++◌, arith, Option, Some, None, is_some, unwrap_or, refl, sym, ap, subst, ◌∙◌, true≢false, suc-ne-zero, ne_eqb, append-nil, append_assoc}
+use Rattle.std.proofs.lemmas.Bool.{cond_both}
 use Rattle.rp_base.specs.declared.limits.TheConstants.{STEPS_MOST}
 use Rattle.journal.specs.Lines.{transcript}
 use Rattle.journal.specs.declared.events.Event.{Event}
 use Rattle.journal.specs.declared.events.Event.TheVariants as event
-use Rattle.crash_recover.specs.Cores.{CoreState}
+use Rattle.crash_recover.specs.Cores.{CoreState, LoadState}
+use Rattle.link_bench.specs.Benches.{BenchState}
+use Rattle.core_actors.specs.declared.actors.Actor.{Actor}
+use Rattle.core_actors.specs.declared.actors.Actor.TheVariants as actor
+use Rattle.core_actors.specs.declared.progress.Driven.{Driven}
 use Rattle.core_actors.specs.declared.progress.Driven.TheVariants as driven
-use Rattle.crash_recover.specs.Drives.{DriveStep, actor_step, actor_to_step, drive_step, is_idle, with_turn_after}
+use Rattle.core_actors.specs.ActorSteps.{has_calls}
+use Rattle.crash_recover.specs.CoreCrashes.{first_report, report_as, report_of}
+use Rattle.crash_recover.specs.Drives.{DriveStep, actor_step, actor_to_step, core_with_report, drive_step, host_step, is_idle, placed_map, record_run, record_step, run_by, step_with_report, with_turn_after, worker_call}
 use Rattle.link_commands.specs.declared.stops.Stop.{Stop}
 use Rattle.rp_io.specs.Contents.{AppendsFront}
 use Rattle.link_commands.specs.Logs.{Hands, Keeps, KeepsLess, LogState}
@@ -14,8 +21,11 @@ use Rattle.command_run.specs.declared.core_drives.TheConstants.{STRETCH}
 use Rattle.command_run.specs.Outcomes.{CutsCore, DrivesHanding, DrivesOn, HandsCoreEffect, HasCoreEffect, KeepsLast, KeepsWhole}
 use Rattle.command_run.specs.CoreEffects.{CoreEffect, core_tells}
 use Rattle.command_run.specs.CoreLives.{core_stops}
-use Rattle.proc_state.specs.Lives.{is_up}
-use Rattle.command_run.specs.CoreDrives.{drive_effect, drive_end, drive_steps, is_crashed, is_over, rest_event, rests_or, step_events, step_then, effect_behind}
+use Rattle.proc_state.specs.Lives.{CoreLife, crash_as, is_up, line_of}
+use Rattle.proc_state.specs.declared.answers.Report.{Report}
+use Rattle.proc_state.specs.declared.answers.Report.TheVariants as report
+use Rattle.rp_base.specs.declared.kinds.LifeState.TheVariants.{Crashed}
+use Rattle.command_run.specs.CoreDrives.{IsDriven, drive_effect, drive_end, drive_steps, is_crashed, is_over, rest_event, rests_or, step_events, step_then, effect_behind}
 use Rattle.command_run.proofs.Handed.{front_of_more, hands_front, hands_kept, hands_more}
 use Rattle.link_commands.proofs.Transcripts.{transcript-append}
 
@@ -113,6 +123,46 @@ module _ (name : List ℕ) (is_quiet : Bool) where
         ),
       )
 
+-- ---- a step leaves a core up, unless the core crashed in it
+
+first_driven : (life : CoreLife) (core : CoreState) (found : Option BenchState) → is_crashed life.state ≡ true → IsDriven (first_report true life core found).core
+first_driven life core None crashed on = absurd (true≢false (sym crashed ∙ on))
+first_driven life core (Some bench) crashed on = absurd (true≢false (sym crashed ∙ on))
+
+report_driven : (told : Option Report) (core : CoreState) → IsDriven core → IsDriven (report_as true (crash_as told core.life).life (crash_as told core.life).answer core).core
+report_driven None core is = is
+report_driven (Some report.First) core is = first_driven (record core.life { state = Crashed }) core core.bench refl
+report_driven (Some report.Already) core is = is
+
+reported_driven : (came : Driven) (core : CoreState) → IsDriven core → IsDriven (core_with_report came core)
+unfolding report_of
+reported_driven driven.Idle core is = is
+reported_driven driven.Stepped core is = is
+reported_driven (driven.Ended caller end) core is = is
+reported_driven (driven.Worker fault closed) core is = report_driven (line_of core.life.state).crash core is
+reported_driven (driven.Crashed kind closed) core is = report_driven (line_of core.life.state).crash core is
+
+record_driven : (core : CoreState) (found : Option LoadState) → IsDriven core → IsDriven (step_with_report (record_run core found)).core
+record_driven core None is = is
+record_driven core (Some load) is = let ran = run_by core load (placed_map core.regions load) in reported_driven ran.driven ran.core is
+
+call_driven : (core : CoreState) (found : Option BenchState) → IsDriven core → IsDriven (host_step core found).core × IsDriven (worker_call core found).core
+call_driven core None is = (is, is)
+call_driven core (Some bench) is = (is, is)
+
+actor_driven : (one : Actor) (core : CoreState) → IsDriven core → IsDriven (actor_step one core).core
+actor_driven actor.Host core is = (call_driven core core.bench is).0
+actor_driven actor.Worker core is =
+    cond_both (has_calls core.bench core.actors) (worker_call core core.bench) (record_step core) (λ (step : DriveStep). IsDriven step.core)
+    (λ _. (call_driven core core.bench is).1) (λ _. record_driven core core.loaded is)
+
+pub step_driven : (core : CoreState) → IsDriven core → IsDriven (drive_step core).core
+step_driven core is =
+    cond_both (is_idle core) (record { core = core; driven = driven.Idle }) (actor_step (actor_to_step core) (with_turn_after (actor_to_step core) core)) (λ (step : DriveStep). IsDriven step.core)
+    (λ _. is) (λ _. actor_driven (actor_to_step core) (with_turn_after (actor_to_step core) core) is)
+
+-- ---- a core that is up, and one that isn't
+
 -- a drive of a core that is up
 pub drive_up : (name : List ℕ) (is_quiet : Bool) (core : CoreState) (steps count : ℕ) → is_up core.life.state ≡ true → drive_effect name is_quiet core steps count ≡ drive_steps count name is_quiet core steps
 unfolding drive_effect
@@ -194,10 +244,11 @@ told_twice first second effect = ap (λ (events : List Event). record effect { e
 
 module _ (name : List ℕ) (is_quiet : Bool) (count : ℕ) (first : CoreState) (before : LogState) where
   -- no step yet
-  pub drive_first : DrivesOn name is_quiet count first before count first before
-  drive_first = record {
+  pub drive_first : IsDriven first → DrivesOn name is_quiet count first before count first before
+  drive_first up = record {
     done = 0;
     all = omega arith;
+    up = up;
     told = [];
     lines = sym (append-nil before.lines);
     rest = λ more.
@@ -214,6 +265,7 @@ module _ (name : List ℕ) (is_quiet : Bool) (count : ℕ) (first : CoreState) (
       record {
         done = on.done + 1;
         all = omega (arith, one, on.all);
+        up = subst IsDriven (sym steps) (step_driven core on.up);
         told = on.told ++ events;
         lines = ap (λ (l : LogState). l.lines) keeps ∙ ap (λ (l : List ℕ). l ++ transcript events) on.lines
             ∙ append_assoc before.lines (transcript on.told) (transcript events) ∙ ap (λ (l : List ℕ). before.lines ++ l) (sym (transcript-append on.told events));
@@ -247,10 +299,11 @@ module _ (name : List ℕ) (is_quiet : Bool) (count : ℕ) (first : CoreState) (
       })
 
   -- all of it is told and kept, or handed on
-  pub handing_first : (written : Option (List ℕ)) → DrivesHanding name is_quiet count first before written count first before written
-  handing_first written = record {
+  pub handing_first : IsDriven first → (written : Option (List ℕ)) → DrivesHanding name is_quiet count first before written count first before written
+  handing_first up written = record {
     done = 0;
     all = omega arith;
+    up = up;
     told = [];
     hands = hands_kept written before.lines [] before.lines (sym (append-nil before.lines));
     rest = λ more.
@@ -275,6 +328,7 @@ module _ (name : List ℕ) (is_quiet : Bool) (count : ℕ) (first : CoreState) (
     handing_on next_left next after on = record {
       done = h.done + on.done;
       all = omega (arith, h.all, on.all);
+      up = on.up;
       told = h.told ++ on.told;
       hands = subst (λ (bytes : List ℕ). Hands written before.lines now after.lines bytes) (sym (transcript-append h.told on.told))
           (hands_more written now now before.lines log.lines after.lines (transcript h.told) (transcript on.told) h.hands (hands_kept now log.lines (transcript on.told) after.lines on.lines));
@@ -290,6 +344,7 @@ module _ (name : List ℕ) (is_quiet : Bool) (count : ℕ) (first : CoreState) (
     handing_handed new after handed same = record {
       done = h.done;
       all = h.all;
+      up = h.up;
       told = h.told;
       hands = subst (λ (bytes : List ℕ). Hands written before.lines new after.lines bytes) (append-nil (transcript h.told))
           (hands_more written now new before.lines log.lines after.lines (transcript h.told) [] h.hands handed);

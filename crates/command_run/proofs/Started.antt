@@ -1,35 +1,30 @@
 -- A start of a core over what a store tells of its image.
-use Rattle.std.proofs.Common.{◌≡◌, ℕ, zero, suc, Bool, true, false, cond, List, [], ◌∷◌, Option, Some, None, is_some, option_and_then, slice_get, slice_set, Result, Ok, Err, refl, sym, ap, subst, ◌∙◌}
+use Rattle.std.proofs.Common.{◌≡◌, ℕ, zero, suc, Bool, true, false, cond, List, [], ◌∷◌, Option, Some, None, is_some, slice_get, slice_set, Result, Ok, Err, refl, sym, ap, subst, ◌∙◌}
 use Rattle.std.specs.Prelude.{IsTrue}
 use Rattle.std.specs.Result.{result_map_both}
-use Rattle.std.proofs.lemmas.Bool.{true≢false}
 use Rattle.std.proofs.lemmas.Option.{none-some, same_Some}
-use Rattle.rp_base.specs.declared.kinds.LifeState.{LifeState}
-use Rattle.rp_base.specs.declared.kinds.LifeState.TheVariants.{Offline, Running, Crashed, Attached, Detached}
 use Rattle.rp_io.specs.declared.faults.FetchFault.TheVariants as fetch_fault
-use Rattle.proc_state.specs.Lives.{CoreLife, handover_to, is_offline, life_after_handover, line_of}
-use Rattle.proc_state.specs.declared.answers.LifeFault.{LifeFault}
 use Rattle.crash_recover.specs.declared.core_answers.Start.{Start}
 use Rattle.crash_recover.specs.declared.core_faults.CoreFault.{CoreFault}
 use Rattle.crash_recover.specs.Cores.{CoreOutcome, CoreState}
-use Rattle.crash_recover.specs.CoreBoots.{needs_image}
-use Rattle.crash_recover.specs.CoreRecoveries.{recovery_fault, recovery_fault_to}
+use Rattle.crash_recover.specs.CoreBoots.{Found}
+use Rattle.command_run.specs.declared.fetches.FoundImage.{FoundImage}
+use Rattle.command_run.specs.declared.starts.Rest.{Rest}
 use Rattle.command_run.specs.declared.faults.StoreFault.{StoreFault}
 use Rattle.command_run.specs.declared.faults.StoreFault.TheVariants as store_fault
 use Rattle.link_commands.specs.declared.acts.StartAct.{StartAct}
-use Rattle.link_commands.specs.declared.acts.StartAct.TheVariants as starts
 use Rattle.link_commands.specs.declared.stops.Stop.{Stop}
 use Rattle.command_run.specs.CoreCommands.{core_act_effect, core_effect}
-use Rattle.command_run.specs.CoreEffects.{CoreEffect, core_tells_all}
+use Rattle.command_run.specs.CoreEffects.{core_tells_all}
 use Rattle.command_run.specs.CoreLives.{found_image, start_effect, start_events, start_name, start_with, started_effect}
 use Rattle.command_run.specs.Faults.{store_command_fault}
-use Rattle.command_run.specs.Fetches.{DidTold, IsFetchFault, IsToldFor, RunsTold}
+use Rattle.command_run.specs.Fetches.{DidTold, IsToldFor, RunsTold}
 use Rattle.link_commands.specs.Logs.{LogState}
 use Rattle.command_run.specs.Outcomes.{HandsRunEffect, HasCoreEffect, HasRunEffect}
 use Rattle.command_run.specs.NamedCores.{NamedCoreState}
 use Rattle.command_run.specs.NamedImages.{ImageState}
-use Rattle.command_run.specs.Runs.{ObjectsState, RunEffect, RunState, asked_name, core_named, core_place, act_asks, core_act, effect_of, line_effect, name_effect, outside_image, place_of, core_effect_at, start_image, takes_over}
-use Rattle.command_run.specs.Starts.{DidStart, StartsOver}
+use Rattle.command_run.specs.Runs.{ObjectsState, RunEffect, RunState, asked_name, core_named, core_place, act_asks, core_act, effect_of, line_effect, name_effect, outside_image, place_of, core_effect_at, start_image, start_needs}
+use Rattle.command_run.specs.Starts.{DidStart, IsImageOf, StartsOver, start_of}
 use Rattle.command_run.specs.Stores.{Answer}
 use Rattle.link_commands.specs.Acts.{line_of as line_of_command}
 use Rattle.link_commands.specs.declared.acts.CoreAct.{CoreAct}
@@ -44,100 +39,50 @@ use Rattle.command_run.proofs.Placing.{effect_on_bare_core, kept_run, with_core}
 use Rattle.command_run.proofs.Shelves.{shelf_of}
 use Rattle.script_lang.specs.declared.commands.Command.{Command}
 
--- where nothing is in the store, the image is missing
-pub missing_alone : (asked : Option (List ℕ)) (answer : Answer) → IsToldFor (Some []) asked answer → answer ≡ Err fetch_fault.Missing
-missing_alone None answer is = is
-missing_alone (Some name) answer is = is
+-- whether a start asks the store
+asks_none : (start : StartAct) (made : List ImageState) (named : NamedCoreState) → start_needs start named.core ≡ false → start_image start made (Some named) ≡ None
+asks_none start made named unneeded = ap (λ (needs : Bool). cond needs (outside_image made (start_name start named)) None) unneeded
 
--- what a core answers to a start
-abbrev pub start_outcome : StartAct → List ImageState → Answer → NamedCoreState → CoreOutcome Start CoreFault
-start_outcome start made answer named = start_with start named.core (found_image made answer (start_name start named))
+asks_outside : (start : StartAct) (made : List ImageState) (named : NamedCoreState) → start_needs start named.core ≡ true → start_image start made (Some named) ≡ outside_image made (start_name start named)
+asks_outside start made named needed = ap (λ (needs : Bool). cond needs (outside_image made (start_name start named)) None) needed
 
-started_is : (start : StartAct) (made : List ImageState) (answer : Answer) (named : NamedCoreState) (steps : ℕ)
-    → started_effect start made answer named steps ≡ start_effect named.name (start_name start named) steps (start_outcome start made answer named)
-unfolding started_effect
-started_is start made answer named steps = refl
+-- a start that went on with what was found
+pub went_on : (start : StartAct) (rest : Rest) (core left : CoreState) (found given : Found) (outcome : CoreOutcome Start CoreFault) → start ≡ start_of rest → left ≡ core → given ≡ found
+    → start_with (start_of rest) left given ≡ outcome → start_with start core found ≡ outcome
+went_on start rest core left found given outcome is same there did =
+    ap (λ (one : StartAct). start_with one core found) is ∙ sym (ap (λ (k : CoreState). start_with (start_of rest) k found) same) ∙ sym (ap (start_with (start_of rest) left) there) ∙ did
 
--- an outcome by its parts
-pub outcome_is : (out : CoreOutcome Start CoreFault) (core : CoreState) (answer : Result Start CoreFault) → core ≡ out.core → answer ≡ out.answer → out ≡ record { core = core; answer = answer }
-outcome_is out core answer left is = λ i. record { core = sym left i; answer = sym is i }
-
-module _ (images : Option (List (List ℕ × List ℕ))) (start : StartAct) (made : List ImageState) (named : NamedCoreState) where
+-- on the core of a name, with the image of a name
+module _ (start : StartAct) (made : List ImageState) (name : List ℕ) (core : CoreState) (named : NamedCoreState) (is : record { name = name; core = core } ≡ named) (image : List ℕ) (called : image ≡ start_name start named)
+    (now left : CoreState) (started : Result Start CoreFault) (before after : LogState) (ending : Option Stop) (told : HasCoreEffect (core_tells_all now before.steps (start_events name image started)) left before after ending) where
   -- the core answered so, and that was told
-  pub did_start : (answer : Answer) (core left : CoreState) (started : Result Start CoreFault) (before after : LogState) (ending : Option Stop)
-      → IsToldFor images (start_image start made (Some named)) answer → start_outcome start made answer named ≡ record { core = core; answer = started }
-      → HasCoreEffect (core_tells_all core before.steps (start_events named.name (start_name start named) started)) left before after ending
-      → DidStart images start made named left before after ending
-  did_start answer core left started before after ending is out told = record {
-    answer = answer;
-    is = is;
-    did = subst (λ (e : CoreEffect). HasCoreEffect e left before after ending)
-        (sym (started_is start made answer named before.steps ∙ ap (start_effect named.name (start_name start named) before.steps) out)) told;
-  }
+  pub did_over : (answer : Answer) → start_with start core (found_image made answer image) ≡ record { core = now; answer = started }
+      → HasCoreEffect (started_effect start made answer named before.steps) left before after ending
+  unfolding started_effect
+  did_over answer did =
+      subst (λ (n : NamedCoreState). HasCoreEffect (start_effect n.name (start_name start named) before.steps (start_with start n.core (found_image made answer (start_name start named)))) left before after ending) is
+      (subst (λ (asked : List ℕ). HasCoreEffect (start_effect name asked before.steps (start_with start core (found_image made answer asked))) left before after ending) called
+      (subst (λ (outcome : CoreOutcome Start CoreFault). HasCoreEffect (start_effect name image before.steps outcome) left before after ending) (sym did) told))
 
-  -- no image was asked for
-  pub untold : start_image start made (Some named) ≡ None → IsToldFor images (start_image start made (Some named)) (Err fetch_fault.Missing)
-  untold none = subst (λ (asked : Option (List ℕ)). IsToldFor images asked (Err fetch_fault.Missing)) (sym none) refl
+  module _ (images : Option (List (List ℕ × List ℕ))) where
+    -- without an image
+    pub did_without : start_needs start core ≡ false → ((found : Found) → start_with start core found ≡ record { core = now; answer = started }) → DidStart images start made named left before after ending
+    did_without unneeded did = record {
+      answer = Err fetch_fault.Missing;
+      is = subst (λ (asked : Option (List ℕ)). IsToldFor images asked (Err fetch_fault.Missing))
+          (sym (asks_none start made named (ap (λ (n : NamedCoreState). start_needs start n.core) (sym is) ∙ unneeded))) refl;
+      did = did_over (Err fetch_fault.Missing) (did (found_image made (Err fetch_fault.Missing) image));
+    }
 
-  -- the store failed, or memory ran out
-  pub unfound_start : (why : StoreFault) (left : CoreState) (before after : LogState) (was then : ℕ) → IsFetchFault why was then
-      → (why ≡ store_fault.Failed → IsTrue (is_some (start_image start made (Some named)))) → left ≡ named.core → after ≡ before
-      → StartsOver (Err why) images start made named left before after was then
-  unfound_start store_fault.Failed left before after was then rose asked same kept = (asked refl, same, kept, rose)
-  unfound_start store_fault.NoMemory left before after was then rose asked same kept = rose
-
-module _ (made : List ImageState) (named : NamedCoreState) where
-  -- whether a boot asks the store
-  pub boot_asks_none : (image : List ℕ) → needs_image named.core ≡ false → start_image (starts.Boot image) made (Some named) ≡ None
-  boot_asks_none image unneeded = ap (λ (b : Bool). cond b (outside_image made image) None) unneeded
-
-  pub boot_asks : (image : List ℕ) → needs_image named.core ≡ true → start_image (starts.Boot image) made (Some named) ≡ outside_image made image
-  boot_asks image needed = ap (λ (b : Bool). cond b (outside_image made image) None) needed
-
-  -- and a handover
-  pub handover_asks_none : (image : List ℕ) → takes_over named.core ≡ false → start_image (starts.Handover image) made (Some named) ≡ None
-  handover_asks_none image unneeded = ap (λ (b : Bool). cond b (outside_image made image) None) unneeded
-
-  pub handover_asks : (image : List ℕ) → takes_over named.core ≡ true → start_image (starts.Handover image) made (Some named) ≡ outside_image made image
-  handover_asks image needed = ap (λ (b : Bool). cond b (outside_image made image) None) needed
-
-  -- and a recovery
-  pub recovery_asks_none : (why : LifeFault) → recovery_fault named.core.life ≡ Some why → start_image starts.Recover made (Some named) ≡ None
-  recovery_asks_none why is = ap (λ (found : Option LifeFault). cond (is_some found) None (option_and_then (outside_image made) named.core.image)) is
-
-  pub recovery_asks_for : (image : List ℕ) → recovery_fault named.core.life ≡ None → Some image ≡ named.core.image → start_image starts.Recover made (Some named) ≡ outside_image made image
-  recovery_asks_for image may is =
-      ap (λ (found : Option LifeFault). cond (is_some found) None (option_and_then (outside_image made) named.core.image)) may
-      ∙ ap (λ (found : Option (List ℕ)). option_and_then (outside_image made) found) (sym is)
-
--- ---- lives
-
-hands_with : (to : Option LifeState) (life : CoreLife) → (handover_to to life).answer ≡ Ok tt → is_some to ≡ true
-hands_with None life is = absurd (cc)
-hands_with (Some state) life is = refl
-
--- a life that is handed over was offline
-pub was_offline : (life : CoreLife) → (life_after_handover life).answer ≡ Ok tt → is_offline life.state ≡ true
-was_offline life is = hands_with (line_of life.state).handover life is
-
-stays_with : (to : Option LifeState) (life : CoreLife) (why : LifeFault) → (handover_to to life).answer ≡ Err why → is_some to ≡ false
-stays_with None life why is = refl
-stays_with (Some state) life why is = absurd (cc)
-
--- and one that isn't was not
-pub stays_taken : (life : CoreLife) (why : LifeFault) → (life_after_handover life).answer ≡ Err why → is_offline life.state ≡ false
-stays_taken life why is = stays_with (line_of life.state).handover life why is
-
-crashed_at : (state : LifeState) (life : CoreLife) → recovery_fault_to (line_of state).recovery life ≡ None → is_offline state ≡ false
-crashed_at Offline life may = absurd (true≢false (ap is_some may))
-crashed_at Running life may = refl
-crashed_at Crashed life may = refl
-crashed_at Attached life may = refl
-crashed_at Detached life may = refl
-
--- a core that may be recovered is not offline
-pub recovers_loaded : (life : CoreLife) → recovery_fault life ≡ None → is_offline life.state ≡ false
-recovers_loaded life may = crashed_at life.state life may
+    -- with the one that was looked for
+    pub did_with : (found : FoundImage) (it : IsImageOf images made image found) → start_needs start core ≡ true → start_with start core (found_image made it.answer image) ≡ record { core = now; answer = started }
+        → DidStart images start made named left before after ending
+    did_with found it needed did = record {
+      answer = it.answer;
+      is = subst (λ (asked : Option (List ℕ)). IsToldFor images asked it.answer)
+          (ap (outside_image made) called ∙ sym (asks_outside start made named (ap (λ (n : NamedCoreState). start_needs start n.core) (sym is) ∙ needed))) it.is;
+      did = did_over it.answer did;
+    }
 
 -- ---- a start of the core of a name is what the run does
 
@@ -157,11 +102,6 @@ pub core_line : (answer : Answer) (run : RunState) (asking : Command) (called : 
     → effect_of answer run asking ≡ name_effect answer run called (under.Core act)
 unfolding effect_of
 core_line answer run asking called act is = ap (line_effect answer run) (on_core (line_of_command asking) called act is)
-
-nobody_asks : (start : StartAct) (made : List ImageState) → start_image start made None ≡ None
-nobody_asks (starts.Boot image) made = refl
-nobody_asks (starts.Handover image) made = refl
-nobody_asks starts.Recover made = refl
 
 -- an act that is a start, on a core
 start_on_core : (made : List ImageState) (answer : Answer) (is_quiet : Bool) (named : NamedCoreState) (steps : ℕ) (start : StartAct)
@@ -238,7 +178,7 @@ module _ (images : Option (List (List ℕ × List ℕ))) (run : RunState) (askin
       → RunsTold (Ok ending) images run asking left before after written written faults faults was then
   nobody_told left ending nobody same did =
       let none : asked_name run.objects asking ≡ None =
-      ap (act_asks run.objects) asks ∙ ap (start_image start run.objects.images) nobody ∙ nobody_asks start run.objects.images in (
+      ap (act_asks run.objects) asks ∙ ap (start_image start run.objects.images) nobody in (
         told_run images run asking left before after written ending (Err fetch_fault.Missing)
             (subst (λ (asked : Option (List ℕ)). IsToldFor images asked (Err fetch_fault.Missing)) (sym none) refl)
             (subst (λ (e : RunEffect). HasRunEffect e left before after ending) (sym (core_line (Err fetch_fault.Missing) run asking called (core.Start start) asks)) did),

@@ -1,5 +1,5 @@
 -- What a drive of a core's actors leaves of it and tells (own).
-use Rattle.std.specs.Prelude.{ℕ, zero, suc, ◌+◌, ◌==◌, ◌||◌, Bool, true, false, List, [], ◌∷◌, ◌++◌, Option, Some, None, is_some, unwrap_or, if◌then◌else◌}
+use Rattle.std.specs.Prelude.{◌≡◌, ℕ, zero, suc, ◌+◌, ◌==◌, ◌||◌, Bool, true, false, List, [], ◌∷◌, ◌++◌, Option, Some, None, is_some, unwrap_or, if◌then◌else◌}
 use Rattle.rp_base.specs.declared.limits.TheConstants.{STEPS_MOST}
 use Rattle.rp_base.specs.declared.kinds.CrashKind.TheVariants as kind
 use Rattle.rp_base.specs.declared.kinds.LifeState.{LifeState}
@@ -43,6 +43,10 @@ effect_behind earlier effect = record effect { events = earlier ++ effect.events
 abbrev pub is_crashed : LifeState → Bool
 is_crashed Crashed = true
 is_crashed other = false
+
+-- a core that is driven: it is up, unless it has crashed
+abbrev pub IsDriven : CoreState → Type 0
+IsDriven core = is_crashed core.life.state ≡ false → is_up core.life.state ≡ true
 
 -- why the actors of a core make no further step: it crashed, or both have nothing to do
 abbrev pub rest_event : List ℕ → CoreState → Option Event

@@ -9,7 +9,7 @@ use Rattle.link_commands.specs.declared.stops.Stop.{Stop}
 use Rattle.link_commands.specs.Logs.{Hands, LogState}
 use Rattle.command_run.specs.declared.core_drives.TheConstants.{STRETCH}
 use Rattle.command_run.specs.CoreEffects.{CoreEffect}
-use Rattle.command_run.specs.CoreDrives.{drive_steps, effect_behind}
+use Rattle.command_run.specs.CoreDrives.{IsDriven, drive_steps, effect_behind}
 use Rattle.command_run.specs.Runs.{ObjectsState, RunEffect}
 
 -- a command left of its core, told and answered what this effect says
@@ -23,6 +23,7 @@ pub record HasCoreEffect (effect : CoreEffect) (left : CoreState) (before after 
 pub record DrivesOn (name : List ℕ) (is_quiet : Bool) (count : ℕ) (first : CoreState) (before : LogState) (left : ℕ) (core : CoreState) (log : LogState) : Type 0 where
   pub done : ℕ
   pub all : done + left ≡ count
+  pub up : IsDriven core
   pub told : List Event
   pub lines : log.lines ≡ before.lines ++ transcript told
   pub rest : (more : ℕ) → drive_steps (done + more) name is_quiet first before.steps ≡ effect_behind told (drive_steps more name is_quiet core log.steps)
@@ -31,6 +32,7 @@ pub record DrivesOn (name : List ℕ) (is_quiet : Bool) (count : ℕ) (first : C
 pub record DrivesHanding (name : List ℕ) (is_quiet : Bool) (count : ℕ) (first : CoreState) (before : LogState) (written : Option (List ℕ)) (left : ℕ) (core : CoreState) (log : LogState) (now : Option (List ℕ)) : Type 0 where
   pub done : ℕ
   pub all : done + left ≡ count
+  pub up : IsDriven core
   pub told : List Event
   pub hands : Hands written before.lines now log.lines (transcript told)
   pub rest : (more : ℕ) → drive_steps (done + more) name is_quiet first before.steps ≡ effect_behind told (drive_steps more name is_quiet core log.steps)

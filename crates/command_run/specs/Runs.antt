@@ -1,5 +1,5 @@
 -- The run of a script: what each command leaves and tells, from nothing on (own).
-use Rattle.std.specs.Prelude.{◌≡◌, ℕ, Bool, true, false, is_some, ◌+◌, nat_le, find, List, [], ◌∷◌, ◌++◌, length, slice_get, slice_set, Option, Some, None, option_and_then, Result, Ok, Err, bytes_eq, if◌then◌else◌}
+use Rattle.std.specs.Prelude.{◌≡◌, ℕ, Bool, true, false, is_none, is_some, ◌+◌, nat_le, find, List, [], ◌∷◌, ◌++◌, length, slice_get, slice_set, Option, Some, None, Result, Ok, Err, bytes_eq, if◌then◌else◌}
 use Rattle.std.specs.List.{position}
 use Rattle.std.specs.Str.{is_utf8}
 use Rattle.rp_base.specs.declared.limits.TheConstants.{OBJECTS_MOST}
@@ -18,6 +18,7 @@ use Rattle.rp_io.specs.declared.faults.FetchFault.TheVariants as fetch
 use Rattle.command_run.specs.Stores.{Answer, Told, later_told, told_answer}
 use Rattle.command_run.specs.CoreEffects.{CoreEffect}
 use Rattle.command_run.specs.CoreCommands.{core_effect, is_on}
+use Rattle.command_run.specs.CoreLives.{start_name}
 use Rattle.command_run.specs.Dumps.{core_answer, kept_dumps}
 use Rattle.script_lang.specs.declared.commands.RegionSet.{RegionSet}
 use Rattle.script_lang.specs.declared.commands.RegionSet.TheVariants as regions
@@ -226,26 +227,16 @@ effect_of answer run command = line_effect answer run (line_of command)
 abbrev pub outside_image : List ImageState → List ℕ → Option (List ℕ)
 outside_image images name = if has_image images name then None else (if is_utf8 name then Some name else None)
 
--- the image for which a boot or a handover asks the store: one that the core needs for it and the script didn't make
-abbrev pub start_asks : (CoreState → Bool) → List ImageState → List ℕ → Option NamedCoreState → Option (List ℕ)
-start_asks needs images image None = None
-start_asks needs images image (Some named) = if needs named.core then outside_image images image else None
+-- whether a start needs an image: a boot that loads one, a handover of a core that is offline, and a recovery that the core's life doesn't refuse
+abbrev pub start_needs : StartAct → CoreState → Bool
+start_needs (starts.Boot image) core = needs_image core
+start_needs (starts.Handover image) core = is_offline core.life.state
+start_needs starts.Recover core = is_none (recovery_fault core.life)
 
--- whether a handover needs an image: the core is offline
-abbrev pub takes_over : CoreState → Bool
-takes_over core = is_offline core.life.state
-
--- the image for which a recovery asks the store: the one that was booted or handed over, which the script didn't make
-abbrev pub recovery_asks : List ImageState → Option NamedCoreState → Option (List ℕ)
-recovery_asks images None = None
-recovery_asks images (Some named) =
-    if is_some (recovery_fault named.core.life) then None else option_and_then (outside_image images) named.core.image
-
--- the image for which a start asks the store, over those that the script made
+-- the image for which a start asks the store: one that the core needs for it and the script didn't make
 abbrev pub start_image : StartAct → List ImageState → Option NamedCoreState → Option (List ℕ)
-start_image (starts.Boot image) images named = start_asks needs_image images image named
-start_image (starts.Handover image) images named = start_asks takes_over images image named
-start_image starts.Recover images named = recovery_asks images named
+start_image start images None = None
+start_image start images (Some named) = if start_needs start named.core then outside_image images (start_name start named) else None
 
 -- the act on a core that a command is about, with the core's name
 abbrev pub core_act : Line (List RecipeLine) (List ℕ) → Option (List ℕ × CoreAct)

@@ -1,20 +1,29 @@
 -- The starts of a core that may need an image, over what a store tells of it (own).
-use Rattle.std.specs.Prelude.{◌≡◌, ℕ, List, Option, Some, is_some, IsTrue, Result, Ok, Err}
+use Rattle.std.specs.Prelude.{◌≡◌, ◌≢◌, ℕ, true, false, List, Option, Some, None, is_some, IsTrue, Result, Ok, Err}
 use Rattle.rp_io.specs.Causes.{Rose}
+use Rattle.proc_state.specs.Lives.{life_after_boot, life_after_handover}
+use Rattle.crash_recover.specs.declared.core_faults.CoreFault.TheVariants as core_fault
 use Rattle.crash_recover.specs.Cores.{CoreState}
+use Rattle.crash_recover.specs.CoreBoots.{Found, needs_image}
+use Rattle.crash_recover.specs.CoreRecoveries.{recovery_fault}
 use Rattle.link_commands.specs.declared.acts.StartAct.{StartAct}
+use Rattle.link_commands.specs.declared.acts.StartAct.TheVariants as starts
+use Rattle.command_run.specs.declared.starts.Begun.{Begun}
+use Rattle.command_run.specs.declared.starts.Begun.TheVariants as begun
+use Rattle.command_run.specs.declared.starts.Rest.{Rest}
+use Rattle.command_run.specs.declared.starts.Rest.TheVariants as rest
 use Rattle.command_run.specs.declared.faults.StoreFault.{StoreFault}
 use Rattle.command_run.specs.declared.faults.StoreFault.TheVariants as store_fault
 use Rattle.command_run.specs.declared.fetches.FoundImage.{FoundImage}
 use Rattle.command_run.specs.declared.fetches.FoundImage.TheVariants as found_image
 use Rattle.link_commands.specs.declared.stops.Stop.{Stop}
-use Rattle.command_run.specs.CoreLives.{found_image as image_of_name, made_image, started_effect}
+use Rattle.command_run.specs.CoreLives.{found_image as image_of_name, made_image, start_with, started_effect}
 use Rattle.command_run.specs.Fetches.{IsToldFor, answer_of}
 use Rattle.link_commands.specs.Logs.{LogState}
 use Rattle.command_run.specs.Outcomes.{HasCoreEffect}
 use Rattle.command_run.specs.NamedCores.{NamedCoreState}
 use Rattle.command_run.specs.NamedImages.{ImageState}
-use Rattle.command_run.specs.Runs.{outside_image, start_image}
+use Rattle.command_run.specs.Runs.{outside_image, start_image, start_needs}
 use Rattle.command_run.specs.Stores.{Answer}
 
 -- what is known of an image that was looked for
@@ -27,6 +36,24 @@ pub record IsImageOf (images : Option (List (List ℕ × List ℕ))) (made : Lis
   pub answer : Answer
   pub is : IsToldFor images (outside_image made name) answer
   pub image : image_answer found ≡ image_of_name made answer name
+
+-- a start as it is to go on
+abbrev pub start_of : Rest → StartAct
+start_of (rest.Boot life image) = starts.Boot image
+start_of (rest.Handover life image) = starts.Handover image
+start_of rest.Recovery = starts.Recover
+
+-- the core needs an image for it, with which a boot and a handover come to this life
+abbrev pub NeedsImage : CoreState → Rest → Type 0
+NeedsImage core (rest.Boot life image) = (needs_image core ≡ true) × (life ≡ (life_after_boot core.life).life)
+NeedsImage core (rest.Handover life image) = ((life_after_handover core.life).answer ≡ Ok tt) × (life ≡ (life_after_handover core.life).life)
+NeedsImage core rest.Recovery = recovery_fault core.life ≡ None
+
+-- a start as far as it comes without an image: it is done, whatever image would be found, or it is to go on with one, and nothing has changed
+abbrev pub Begins : StartAct → CoreState → CoreState → Begun → Type 0
+Begins start core left (begun.Done answer) =
+    answer ≢ Err core_fault.NoMemory → (start_needs start core ≡ false) × ((found : Found) → start_with start core found ≡ record { core = left; answer = answer })
+Begins start core left (begun.NeedsImage rest) = (start ≡ start_of rest) × (start_needs start core ≡ true) × NeedsImage left rest × (left ≡ core)
 
 -- a start did what it does over what was told of the image that it asked for
 pub record DidStart (images : Option (List (List ℕ × List ℕ))) (start : StartAct) (made : List ImageState) (named : NamedCoreState) (left : CoreState) (before after : LogState) (ending : Option Stop) : Type 0 where

@@ -8,11 +8,12 @@ ghost use Rattle.rp_base.specs.declared.limits.TheConstants.{STEPS_MOST};
 ghost use Rattle.command_run.specs.declared.core_drives.TheConstants.{STRETCH};
 ghost use Rattle.core_actors.specs.ActorSteps.{HoldsDrivenTaken};
 ghost use Rattle.link_bench.specs.Benches.{HoldsTaken, link_in};
+ghost use Rattle.proc_state.specs.Lives.{is_up};
 ghost use Rattle.crash_recover.specs.Drives.{drive_step, is_idle};
 ghost use Rattle.remote_code.specs.Faults.{fault_number};
 ghost use Rattle.rp_base.specs.declared.kinds.CrashKind.TheVariants as kind;
 ghost use Rattle.command_run.specs.CoreLives.{crash_events};
-ghost use Rattle.command_run.specs.CoreDrives.{actor_end_events, drive_effect, drive_end, drive_steps, driven_events, is_crashed, is_over, rest_event, step_events};
+ghost use Rattle.command_run.specs.CoreDrives.{IsDriven, actor_end_events, drive_effect, drive_end, drive_steps, driven_events, is_crashed, is_over, rest_event, step_events};
 
 use crate::{NamedCore, OutputFault};
 use crash_recover::{Driven, Reach};
@@ -44,13 +45,14 @@ impl NamedCore {
         self.drive_running(count, is_quiet, log)
     }
 
-    /// The same of a core that is up.
+    /// The same of a core that is up, or has crashed in this drive.
     fn drive_running(
         &mut self,
         count: u64,
         is_quiet: bool,
         log: &mut RunLog,
     ) -> Result<Option<Stop>, NoMemory>
+        requires { IsDriven self.old.core }
         ensures name { self.new.name ≡ self.old.name }
         ensures effect { IfOk result (λ ending. HasCoreEffect (drive_steps count self.old.name is_quiet self.old.core log.old.steps) self.new.core log.old log.new ending) }
     {
@@ -92,6 +94,7 @@ impl NamedCore {
         log: &mut RunLog,
         out: &mut K,
     ) -> Result<u64, OutputFault>
+        requires { IsDriven self.old.core }
         ensures name { self.new.name ≡ self.old.name }
         ensures on { IfOk result (λ left. DrivesHanding self.old.name is_quiet count self.old.core log.old (K.written out.old) left self.new.core log.new (K.written out.new)) }
         ensures same { OnOk result (K.faults out.new ≡ K.faults out.old) }
@@ -124,7 +127,8 @@ impl NamedCore {
         is_quiet: bool,
         log: &mut RunLog,
     ) -> Result<u64, NoMemory>
-        requires { most ≤ count }
+        requires most { most ≤ count }
+        requires up { IsDriven self.old.core }
         ensures name { self.new.name ≡ self.old.name }
         ensures on { IfOk result (λ left. DrivesOn self.old.name is_quiet count self.old.core log.old left self.new.core log.new) }
         ensures within { IfOk result (λ left. left ≤ count) }
@@ -179,8 +183,8 @@ impl NamedCore {
         }
     }
 
-    /// One step of the actors, which `driven` says: tells what it was, and answers whether they had
-    /// something to do.
+    /// One step of the actors of a core that is up, which `driven` says: tells what it was, and answers
+    /// whether they had something to do.
     #[inline(always)]
     fn drive_on(
         &mut self,
@@ -188,6 +192,7 @@ impl NamedCore {
         driven: &mut Driven,
         log: &mut RunLog,
     ) -> Result<bool, NoMemory>
+        requires { is_up self.old.core.life.state ≡ true }
         ensures name { self.new.name ≡ self.old.name }
         ensures steps { IfOk result (λ stepped. stepped ≡ not (is_idle self.old.core)) }
         ensures core { IfOk result (λ _. self.new.core ≡ (drive_step self.old.core).core) }

@@ -1,5 +1,4 @@
-ghost use Rattle.std.specs.Prelude.{◌≡◌, ◌≢◌, ◌<◌, ◌+◌, ◌++◌, ℕ, false, IfOk, OnOk, Ok, Err, Some};
-ghost use Rattle.proc_state.specs.Lives.{is_offline};
+ghost use Rattle.std.specs.Prelude.{◌≡◌, ◌≢◌, ◌<◌, ◌+◌, ◌++◌, ℕ, IfOk, OnOk, Ok, Err, Some};
 ghost use Rattle.rp_base.specs.declared.limits.TheConstants.{STEPS_MOST};
 ghost use Rattle.crash_recover.specs.declared.core_answers.Crash.TheVariants as crash;
 ghost use Rattle.crash_recover.specs.declared.core_answers.Leave.TheVariants as leave;
@@ -8,26 +7,29 @@ ghost use Rattle.journal.specs.Lines.{line};
 ghost use Rattle.journal.specs.declared.events.Event.TheVariants as event;
 ghost use Rattle.command_run.specs.Outcomes.{HasCoreEffect};
 ghost use Rattle.command_run.specs.CoreEffects.{core_tells_all};
-ghost use Rattle.command_run.specs.CoreLives.{booted_image, core_fault_events, crash_effect, detach_effect, fault_at, leave_effect, life_fault_event, may_step, report_effect, shutdown_effect, start_events};
+ghost use Rattle.command_run.specs.CoreLives.{core_fault_events, crash_effect, detach_effect, fault_at, leave_effect, life_fault_event, may_step, report_effect, shutdown_effect, start_events, start_name};
 
 use crate::NamedCore;
 use crash_recover::{CALLER_OUT, CoreFault, Crash, Leave, RINGS_CHANGED, Start};
 use journal::Event;
 use lane_model::ReopenFault;
-use link_commands::{RunLog, Stop, event};
+use link_commands::{RunLog, StartAct, Stop, event};
 use proc_state::LifeFault;
 use rp_base::{CrashKind, Era, Inc, Name, NoMemory, STEPS_MOST};
 use rp_io::FetchFault;
 
 impl NamedCore {
-    /// The name of the image that the core was booted or handed over with; of an offline core its own.
-    pub(crate) fn booted_image(&self) -> Name
-        ensures image { result ≡ booted_image self.now.name self.now.core }
-        ensures there { is_offline self.now.core.life.state ≡ false → Some result ≡ self.now.core.image }
+    /// The name of the image with which the core is started: for a recovery that with which it was
+    /// booted or handed over, of an offline core its own.
+    pub(crate) fn start_name(&self, start: StartAct) -> Name
+        ensures { result ≡ start_name start self.now }
     {
-        match self.core.image() {
-            Some(image) => *image,
-            None => self.name,
+        match start {
+            StartAct::Boot { image } | StartAct::Handover { image } => image,
+            StartAct::Recover => match self.core.image() {
+                Some(image) => *image,
+                None => self.name,
+            },
         }
     }
 

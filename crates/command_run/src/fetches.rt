@@ -1,9 +1,10 @@
-ghost use Rattle.std.specs.Prelude.{◌≡◌, None, Some, IsTrue, is_some, IfNone, IfOk, IfErr, IfSome, OnOk, IsErrOf};
+ghost use Rattle.std.specs.Prelude.{◌≡◌, None, Some, Err, IsTrue, is_some, IfNone, IfOk, IfErr, IfSome, OnOk, IsErrOf};
 ghost use Rattle.std.specs.Option.{option_copied};
 ghost use Rattle.std.specs.Result.{result_map_both};
 ghost use Rattle.script_lang.specs.Runnable.{IsRunnable};
+ghost use Rattle.rp_io.specs.declared.faults.FetchFault.TheVariants as fetch_fault;
 ghost use Rattle.command_run.specs.declared.faults.StoreFault.TheVariants as store_fault;
-ghost use Rattle.command_run.specs.CoreLives.{image_bytes};
+ghost use Rattle.command_run.specs.CoreLives.{found_image, image_bytes};
 ghost use Rattle.command_run.specs.Runs.{asked_name, core_act, outside_image};
 ghost use Rattle.command_run.specs.Fetches.{IsFetchFault, IsToldUnder, KeepsDrive, RunsTold, answer_of};
 ghost use Rattle.command_run.specs.Starts.{IsImageOf, image_answer};
@@ -117,6 +118,16 @@ pub(crate) fn find_image<'a, F: FirmwareStore>(
     match str::from_utf8(name) {
         Ok(name) => Ok(FoundImage::Told(fetch(alloc, name, store)?)),
         Err(_) => Ok(FoundImage::Told(Fetched::Missing)),
+    }
+}
+
+/// The image of a name, of which the script made one or none is there.
+pub(crate) fn script_image<'a>(images: &'a [ScriptImage], name: &[u8]) -> FoundImage<'a>
+    ensures { image_answer result ≡ found_image images.now (Err fetch_fault.Missing) name.now }
+{
+    match image_bytes(images, name) {
+        Some(bytes) => FoundImage::Made(bytes),
+        None => FoundImage::Told(Fetched::Missing),
     }
 }
 

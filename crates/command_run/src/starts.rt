@@ -1,22 +1,45 @@
-ghost use Rattle.std.specs.Prelude.{◌≡◌, None, Some, Err, Ok, IfOk};
+ghost use Rattle.std.specs.Prelude.{◌≡◌, ◌≢◌, None, Some, Err, IfOk};
+ghost use Rattle.std.specs.Result.{result_map_both};
 ghost use Rattle.rp_io.specs.declared.faults.FetchFault.TheVariants as fetch_fault;
-ghost use Rattle.link_commands.specs.declared.acts.StartAct.TheVariants as starts;
-ghost use Rattle.command_run.specs.CoreLives.{started_effect};
+ghost use Rattle.crash_recover.specs.declared.core_faults.CoreFault.TheVariants as core_fault;
+ghost use Rattle.command_run.specs.CoreLives.{start_with, started_effect};
 ghost use Rattle.command_run.specs.Outcomes.{HasCoreEffect};
 ghost use Rattle.command_run.specs.Runs.{start_image};
-ghost use Rattle.command_run.specs.Starts.{StartsOver};
+ghost use Rattle.command_run.specs.Starts.{Begins, NeedsImage, StartsOver, start_of};
 
-use crate::fetches::find_image;
+use crate::fetches::{find_image, script_image};
 use crate::{NamedCore, ScriptImage, StoreFault};
-use crash_recover::{Boot, CoreFault};
+use crash_recover::{Boot, Core, CoreFault, Start};
 use link_commands::{RunLog, StartAct, Stop};
+use proc_state::Life;
 use rp_base::{Name, NoMemory};
-use rp_io::{FirmwareStore, PlainStore};
+use rp_io::{FetchFault, FirmwareStore};
+use std::alloc::Global;
+
+/// How far a start of a core comes without an image.
+#[derive(Drop)]
+pub enum Begun {
+    /// It did this, or was refused.
+    Done(Result<Start, CoreFault>),
+    /// It needs an image. Nothing has changed.
+    NeedsImage(Rest),
+}
+
+/// What is left of a start that needs an image.
+#[derive(Drop)]
+pub enum Rest {
+    /// A boot to this life, with the image of this name.
+    Boot(Life, Name),
+    /// A handover, likewise.
+    Handover(Life, Name),
+    /// A recovery.
+    Recovery,
+}
 
 /// The starts of a core. An image that the script made comes before one of the store, and the store is
 /// asked only where the core needs an image that the script didn't make.
 impl NamedCore {
-    /// Starts the core over no store.
+    /// Starts the core over no store, and tells what came of it.
     pub(crate) fn start_without_store(
         &mut self,
         start: StartAct,
@@ -26,14 +49,18 @@ impl NamedCore {
         ensures name { self.new.name ≡ self.old.name }
         ensures effect { IfOk result (λ ending. HasCoreEffect (started_effect start images.now (Err fetch_fault.Missing) self.old log.old.steps) self.new.core log.old log.new ending) }
     {
-        let mut store = PlainStore::new(Vec::new(log.alloc()));
-        match self.start(start, images, &mut store, log) {
-            Ok(ending) => Ok(ending),
-            Err(_) => Err(NoMemory),
+        let image = self.start_name(start);
+        match begin(&mut self.core, log.alloc(), start) {
+            Begun::Done(started) => Ok(self.tell_start(image, started, log)?),
+            Begun::NeedsImage(rest) => {
+                let found = script_image(images, image.bytes());
+                let started = go_on(&mut self.core, log.alloc(), rest, found.image());
+                Ok(self.tell_start(image, started, log)?)
+            }
         }
     }
 
-    /// Starts the core, and tells what came of it.
+    /// Starts the core over a store, and tells what came of it.
     pub(crate) fn start<F: FirmwareStore>(
         &mut self,
         start: StartAct,
@@ -46,84 +73,53 @@ impl NamedCore {
         ensures kept { F.images store.new ≡ F.images store.old }
         ensures unasked { start_image start images.now (Some self.old) ≡ None → store.new ≡ store.old }
     {
-        match start {
-            StartAct::Boot { image } => self.boot(image, images, store, log),
-            StartAct::Handover { image } => self.handover(image, images, store, log),
-            StartAct::Recover => self.recover(images, store, log),
-        }
-    }
-
-    /// Boots the core with the image of a name, attaches it, or adds a user.
-    fn boot<F: FirmwareStore>(
-        &mut self,
-        image: Name,
-        images: &[ScriptImage],
-        store: &mut F,
-        log: &mut RunLog,
-    ) -> Result<Option<Stop>, StoreFault>
-        ensures name { self.new.name ≡ self.old.name }
-        ensures started { StartsOver result (F.images store.old) (starts.Boot image) images.now self.old self.new.core log.old log.new (F.faults store.old) (F.faults store.new) }
-        ensures kept { F.images store.new ≡ F.images store.old }
-        ensures unasked { start_image (starts.Boot image) images.now (Some self.old) ≡ None → store.new ≡ store.old }
-    {
-        match self.core.begin_boot(log.alloc()) {
-            Ok(Boot::Done(start)) => Ok(self.tell_start(image, Ok(start), log)?),
-            Ok(Boot::NeedsImage(life)) => {
+        let image = self.start_name(start);
+        match begin(&mut self.core, log.alloc(), start) {
+            Begun::Done(started) => Ok(self.tell_start(image, started, log)?),
+            Begun::NeedsImage(rest) => {
                 let found = find_image(log.alloc(), images, image.bytes(), store)?;
-                let started = self
-                    .core
-                    .boot_image(log.alloc(), life, image, found.image());
+                let started = go_on(&mut self.core, log.alloc(), rest, found.image());
                 Ok(self.tell_start(image, started, log)?)
             }
-            Err(fault) => Ok(self.tell_start(image, Err(fault), log)?),
         }
     }
+}
 
-    /// Hands the core over with the image of a name.
-    fn handover<F: FirmwareStore>(
-        &mut self,
-        image: Name,
-        images: &[ScriptImage],
-        store: &mut F,
-        log: &mut RunLog,
-    ) -> Result<Option<Stop>, StoreFault>
-        ensures name { self.new.name ≡ self.old.name }
-        ensures started { StartsOver result (F.images store.old) (starts.Handover image) images.now self.old self.new.core log.old log.new (F.faults store.old) (F.faults store.new) }
-        ensures kept { F.images store.new ≡ F.images store.old }
-        ensures unasked { start_image (starts.Handover image) images.now (Some self.old) ≡ None → store.new ≡ store.old }
-    {
-        match self.core.handover_life() {
-            Ok(life) => {
-                let found = find_image(log.alloc(), images, image.bytes(), store)?;
-                let started = self
-                    .core
-                    .handover_image(log.alloc(), life, image, found.image());
-                Ok(self.tell_start(image, started, log)?)
-            }
-            Err(fault) => Ok(self.tell_start(image, Err(CoreFault::Life(fault)), log)?),
-        }
+/// A start of a core as far as it comes without an image.
+fn begin(core: &mut Core, alloc: Global, start: StartAct) -> Begun
+    ensures { Begins start core.old core.new result }
+{
+    match start {
+        StartAct::Boot { image } => match core.begin_boot(alloc) {
+            Ok(Boot::Done(start)) => Begun::Done(Ok(start)),
+            Ok(Boot::NeedsImage(life)) => Begun::NeedsImage(Rest::Boot(life, image)),
+            Err(fault) => Begun::Done(Err(fault)),
+        },
+        StartAct::Handover { image } => match core.handover_life() {
+            Ok(life) => Begun::NeedsImage(Rest::Handover(life, image)),
+            Err(fault) => Begun::Done(Err(CoreFault::Life(fault))),
+        },
+        StartAct::Recover => match core.recovery_fault() {
+            None => Begun::NeedsImage(Rest::Recovery),
+            Some(fault) => Begun::Done(Err(CoreFault::Life(fault))),
+        },
     }
+}
 
-    /// Recovers a crashed core with the image that was booted or handed over.
-    fn recover<F: FirmwareStore>(
-        &mut self,
-        images: &[ScriptImage],
-        store: &mut F,
-        log: &mut RunLog,
-    ) -> Result<Option<Stop>, StoreFault>
-        ensures name { self.new.name ≡ self.old.name }
-        ensures started { StartsOver result (F.images store.old) starts.Recover images.now self.old self.new.core log.old log.new (F.faults store.old) (F.faults store.new) }
-        ensures kept { F.images store.new ≡ F.images store.old }
-        ensures unasked { start_image starts.Recover images.now (Some self.old) ≡ None → store.new ≡ store.old }
-    {
-        let image = self.booted_image();
-        match self.core.recovery_fault() {
-            None => {
-                let found = find_image(log.alloc(), images, image.bytes(), store)?;
-                let started = self.core.recover_image(log.alloc(), found.image());
-                Ok(self.tell_start(image, started, log)?)
-            }
-            Some(fault) => Ok(self.tell_start(image, Err(CoreFault::Life(fault)), log)?),
-        }
+/// The rest of a start, with an image that was found, or wasn't.
+fn go_on(
+    core: &mut Core,
+    alloc: Global,
+    rest: Rest,
+    found: Result<&[u8], FetchFault>,
+) -> Result<Start, CoreFault>
+    requires { NeedsImage core.old rest }
+    ensures { result ≢ Err core_fault.NoMemory
+        → start_with (start_of rest) core.old (result_map_both (λ image. image.now) (λ why. why) found.entry) ≡ record { core = core.new; answer = result } }
+{
+    match rest {
+        Rest::Boot(life, image) => core.boot_image(alloc, life, image, found),
+        Rest::Handover(life, image) => core.handover_image(alloc, life, image, found),
+        Rest::Recovery => core.recover_image(alloc, found),
     }
 }

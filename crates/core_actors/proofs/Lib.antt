@@ -1,1 +1,6 @@
-pub mod Begins
+pub mod PendingLanes
+pub mod PendingSteps
+pub mod PendingActors
+pub mod ReadyActors
+pub mod ReadyOthers
+pub mod ReadyParts

@@ -1,5 +1,5 @@
 -- What the actors of a core do on its link, step by step, and when they have nothing to do (own).
-use Rattle.std.specs.Prelude.{ℕ, ◌==◌, Bool, true, false, not, ◌&&◌, ◌||◌, List, [], ◌∷◌, ◌++◌, length, Option, Some, None, is_some, if◌then◌else◌}
+use Rattle.std.specs.Prelude.{ℕ, ◌==◌, Bool, true, false, not, ◌&&◌, ◌||◌, List, [], ◌∷◌, ◌++◌, length, Option, Some, None, if◌then◌else◌}
 use Rattle.addr_translate.specs.Maps.{Mapping}
 use Rattle.channel_bus.specs.Sides.{EndState}
 use Rattle.lane_model.specs.Links.{LinkState}
@@ -10,7 +10,7 @@ use Rattle.remote_core.specs.declared.workers.Work.{Work}
 use Rattle.remote_core.specs.declared.workers.Work.TheVariants as work
 use Rattle.link_bench.specs.declared.benches.Reach.{Reach}
 use Rattle.link_bench.specs.declared.benches.Reach.TheVariants as reach
-use Rattle.link_bench.specs.Benches.{BenchState, BenchWalk, HoldsTaken, is_in_call, begin_fault, advance_walk, counts_of, start_walk}
+use Rattle.link_bench.specs.Benches.{BenchState, BenchWalk, HoldsTaken, is_in_call, advance_walk, counts_of, start_walk}
 use Rattle.core_actors.specs.declared.actors.Actor.{Actor}
 use Rattle.core_actors.specs.declared.progress.Driven.{Driven}
 use Rattle.core_actors.specs.declared.progress.Driven.TheVariants as driven
@@ -96,13 +96,9 @@ has_calls (Some bench) actors = is_in_call bench 1 || not (is_empty actors.worke
 abbrev pub is_drained : BenchState → ℕ → Bool
 is_drained bench lane = let counts = counts_of bench lane in counts.0 == counts.1
 
--- whether an actor's next call is held up: its caller isn't in use, or doesn't hold what the call gives back
-abbrev pub is_held_up : BenchState → ℕ → List Wish → Bool
-is_held_up bench caller calls = is_some (begin_fault bench caller (first_or_take calls))
-
--- whether the host actor begins no call: it has none to make and no message waits, or its next is held up
+-- whether the host actor begins no call: it has none to make and no message waits
 abbrev pub host_waits : BenchState → ActorsState → Bool
-host_waits bench actors = (is_empty actors.host_calls && is_drained bench 0) || is_held_up bench 0 actors.host_calls
+host_waits bench actors = is_empty actors.host_calls && is_drained bench 0
 
 -- whether the host actor has nothing to do: it is in no call, and begins none
 abbrev pub host_is_idle : Option BenchState → ActorsState → Bool
@@ -122,9 +118,9 @@ abbrev pub begins_with_take : List Wish → Bool
 begins_with_take [] = false
 begins_with_take (first ∷ later) = is_take first
 
--- whether the worker begins no call and runs no record: it has ended, its first call is a take of which there is no message, or its next is held up
+-- whether the worker begins no call and runs no record: it has ended, or its first call is a take of which there is no message
 abbrev pub worker_waits : BenchState → ActorsState → Bool
-worker_waits bench actors = actors.worker.is_halted || (begins_with_take actors.worker_calls && is_drained bench 1) || is_held_up bench 1 actors.worker_calls
+worker_waits bench actors = actors.worker.is_halted || (begins_with_take actors.worker_calls && is_drained bench 1)
 
 -- whether the worker has nothing to do: it is in no call, and begins none and runs no record
 abbrev pub worker_is_idle : Option BenchState → ActorsState → Bool

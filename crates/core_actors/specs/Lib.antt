@@ -1,3 +1,4 @@
 pub mod Actors
 pub mod ActorEnds
 pub mod ActorSteps
+pub mod PendingCalls

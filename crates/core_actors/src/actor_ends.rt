@@ -1,4 +1,4 @@
-ghost use Rattle.std.specs.Prelude.{if◌then◌else◌, None, Some, ◌≡◌, ◌<◌, ◌≤◌, ◌+◌, length, OnErr, OnOk};
+ghost use Rattle.std.specs.Prelude.{if◌then◌else◌, None, Some, ◌≡◌, ◌<◌, ◌≤◌, ◌+◌, length};
 ghost use Rattle.std.specs.VecDeque.{deque_len, deque_capacity};
 ghost use Rattle.rp_base.specs.declared.limits.TheConstants.{MESSAGE_MOST};
 ghost use Rattle.lane_model.specs.declared.calls.CallEnd.TheVariants as ended;
@@ -7,13 +7,15 @@ ghost use Rattle.link_bench.specs.Benches.{HoldsReachTaken, HoldsTaken, link_in}
 ghost use Rattle.core_actors.specs.ActorEnds.{actors_after_drivers, actors_after_end, after_endpoint, after_verdict, endpoint_answer, host_after_call, is_tried_again, message_of, taken_number, verdict_answer, worker_after_call};
 ghost use Rattle.core_actors.specs.ActorSteps.{host_after_step, host_at_step_as, worker_after_step};
 
-use crate::actors::Actors;
+use crate::actors::{Actors, make_room};
 use host_driver::Drivers;
 use lane_model::{CallEnd, Wish};
 use link_bench::{Bench, Reach, Watcher};
 use rp_base::{CallerNo, End, Endpoint, Message, Name, NoMemory, NsKind, Verdict};
 
 impl Watcher for Actors {
+    ghost use Rattle.std.specs.Prelude.{◌<◌};
+    ghost use Rattle.std.specs.VecDeque.{deque_capacity, deque_len};
     ghost use Rattle.core_actors.specs.Actors.{ActorsState, actors_view};
     ghost use Rattle.core_actors.specs.ActorEnds.{actors_after_end};
 
@@ -23,8 +25,14 @@ impl Watcher for Actors {
 
     ghost sees = { actors_after_end };
 
-    fn see(&mut self, bench: &Bench, caller: CallerNo, end: &CallEnd) -> Result<(), NoMemory> {
-        self.hear_end(bench, caller, end)
+    ghost HasRoom = { λ actors. deque_len actors.host_calls < deque_capacity actors.host_calls };
+
+    fn make_room(&mut self) -> Result<(), NoMemory> {
+        make_room(&mut self.host_calls, 1)
+    }
+
+    fn see(&mut self, bench: &Bench, caller: CallerNo, end: &CallEnd) {
+        self.see_call(bench, caller, end);
     }
 }
 
@@ -76,25 +84,8 @@ impl Actors {
         }
     }
 
-    /// Has the drivers see the end of a call of a caller of this link, where it is one of the host.
-    ///
-    /// Errors: only for want of memory. The actors are as they were then.
-    fn hear_end(&mut self, bench: &Bench, caller: CallerNo, end: &CallEnd) -> Result<(), NoMemory>
-        requires { HoldsTaken (link_in bench.now) caller end.now }
-        ensures heard { OnOk result (actors_view self.new ≡ actors_after_end bench.now caller end.now (actors_view self.old)) }
-        ensures unchanged { OnErr result (actors_view self.new ≡ actors_view self.old) }
-    {
-        match bench.end_of(caller) {
-            Some(End::Host) => {
-                self.host_calls.reserve(1)?;
-                self.see_end(message_of(bench, caller, end), end);
-                Ok(())
-            }
-            Some(End::Remote) | None => Ok(()),
-        }
-    }
-
-    /// The same where there is room for what a driver may send.
+    /// Has the drivers see the end of a call of a caller of this link, where it is one of the host, and
+    /// there is room for what a driver may send.
     pub(crate) fn see_call(&mut self, bench: &Bench, caller: CallerNo, end: &CallEnd)
         requires taken { HoldsTaken (link_in bench.now) caller end.now }
         requires room { deque_len self.old.host_calls < deque_capacity self.old.host_calls }

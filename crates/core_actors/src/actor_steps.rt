@@ -1,14 +1,17 @@
 ghost use Rattle.rp_base.specs.declared.limits.TheConstants.{CALLERS_MOST};
 ghost use Rattle.std.specs.Prelude.{◌≡◌, ◌<◌, length, false, None, Some, IfOk, OnErr, OnOk};
 ghost use Rattle.channel_bus.specs.Sides.{EndState};
+ghost use Rattle.lane_model.specs.Conditions.{MayStep};
 ghost use Rattle.lane_model.specs.Links.{LinkState};
+ghost use Rattle.lane_model.specs.Soundness.{SoundLink};
 ghost use Rattle.remote_core.specs.Works.{memory_after, work_of};
 ghost use Rattle.core_actors.specs.Actors.{actors_view};
 ghost use Rattle.core_actors.specs.declared.actors.Actor.TheVariants as actor;
 ghost use Rattle.link_bench.specs.Benches.{HoldsReachTaken, advance_walk, begin_fault, is_in_call, link_in, start_walk, step_fault};
 ghost use Rattle.link_bench.specs.Watchers.{watcher_after};
 ghost use Rattle.core_actors.specs.ActorEnds.{actors_after_end};
-ghost use Rattle.core_actors.specs.ActorSteps.{HoldsDrivenTaken, actors_after_record, drive_of_reach, drive_of_work, first_or_take, host_after_step, host_at_step, host_is_idle, is_rest, link_step, with_next_after, worker_after_step, worker_is_idle};
+ghost use Rattle.core_actors.specs.ActorSteps.{HoldsDrivenTaken, actors_after_record, drive_of_reach, drive_of_work, first_or_take, host_after_step, host_at_step, is_rest, link_step, with_next_after, worker_after_step};
+ghost use Rattle.core_actors.specs.PendingCalls.{AreOwnUsed, AreReady};
 
 use crate::actors::{Actor, Actors, make_room};
 use crate::progress::Driven;
@@ -26,7 +29,8 @@ const HOST_CALLER: CallerNo = 0;
 const WORKER_CALLER: CallerNo = 1;
 
 /// A step of an actor: a call under way does one step, else the first of these calls, or a take
-/// where there is none, begins and does its first. `reach` says how far it came.
+/// where there is none, begins and does its first. `reach` says how far it came. The link was sound,
+/// and the step one that could be done on it.
 #[inline(always)]
 fn link_step(
     bench: &mut Bench,
@@ -41,7 +45,10 @@ fn link_step(
     ensures bench { bench.new ≡ (link_step bench.old caller (first_or_take calls.now.items)).bench }
     ensures reach { reach.new ≡ (link_step bench.old caller (first_or_take calls.now.items)).reach }
     ensures taken { HoldsReachTaken (link_in bench.new) caller reach.new }
+    ensures sound { SoundLink (link_in bench.old) }
+    ensures may { goes_on ≡ false → MayStep (link_in bench.old) caller (Some (first_or_take calls.now.items)) }
 {
+    bench.show_sound();
     if goes_on {
         bench.step_on(caller, reach);
         return;
@@ -59,6 +66,7 @@ fn begin_step(bench: &mut Bench, caller: CallerNo, wished: &Wish, reach: &mut Re
     ensures bench { bench.new ≡ (start_walk bench.old 0 caller wished.now).bench }
     ensures reach { reach.new ≡ (start_walk bench.old 0 caller wished.now).reach }
     ensures taken { HoldsReachTaken (link_in bench.new) caller reach.new }
+    ensures may { MayStep (link_in bench.old) caller (Some wished.now) }
 {
     bench.start(caller, wished, &mut StepCount::new(), reach);
 }
@@ -74,8 +82,9 @@ fn tell_reach(caller: CallerNo, reach: &Reach, driven: &mut Driven)
 }
 
 impl Actors {
-    /// A step of the host actor, which has something to do, on a core's link. The next turn is the
-    /// worker's. `driven` says what the step was.
+    /// A step of the host actor on a core's link, whose callers 0 and 1 are the actors' own and on which
+    /// both stand ready for their next steps, before and behind it. The next turn is the worker's. `driven`
+    /// says what the step was.
     ///
     /// Errors: only for want of memory. The link and the actors are as they were then.
     #[inline(always)]
@@ -86,13 +95,15 @@ impl Actors {
         driven: &mut Driven,
     ) -> Result<(), NoMemory>
         requires calling { goes_on ≡ is_in_call bench.old 0 }
-        requires busy { host_is_idle (Some bench.old) (actors_view self.old) ≡ false }
+        requires own { AreOwnUsed (link_in bench.old).callers }
+        requires ready { AreReady (actors_view self.old) bench.old }
         ensures bench { OnOk result (bench.new ≡ (link_step bench.old 0 (first_or_take (actors_view self.old).host_calls)).bench) }
         ensures actors { OnOk result (let walk = link_step bench.old 0 (first_or_take (actors_view self.old).host_calls) in
             actors_view self.new ≡ host_after_step (host_at_step bench.old (with_next_after actor.Host (actors_view self.old))) walk.bench walk.reach) }
         ensures driven { OnOk result (driven.new ≡ drive_of_reach 0 (link_step bench.old 0 (first_or_take (actors_view self.old).host_calls)).reach) }
         ensures taken { OnOk result (HoldsDrivenTaken (link_in bench.new) driven.new) }
         ensures works { OnOk result (is_rest driven.new ≡ false) }
+        ensures ready { OnOk result (AreReady (actors_view self.new) bench.new) }
         ensures same { OnErr result (bench.new ≡ bench.old) }
         ensures unchanged { OnErr result (actors_view self.new ≡ actors_view self.old) }
     {
@@ -106,8 +117,8 @@ impl Actors {
         Ok(())
     }
 
-    /// A step of the worker, which makes a call, on a core's link. The next turn is the host actor's.
-    /// `driven` says what the step was.
+    /// A step of a call of the worker on a core's link, over the same callers, on which both actors stand
+    /// ready too, before and behind it. The next turn is the host actor's. `driven` says what the step was.
     ///
     /// Errors: only for want of memory. The link and the actors are as they were then.
     #[inline(always)]
@@ -118,13 +129,15 @@ impl Actors {
         driven: &mut Driven,
     ) -> Result<(), NoMemory>
         requires calling { goes_on ≡ is_in_call bench.old 1 }
-        requires busy { worker_is_idle (Some bench.old) (actors_view self.old) ≡ false }
+        requires own { AreOwnUsed (link_in bench.old).callers }
+        requires ready { AreReady (actors_view self.old) bench.old }
         ensures bench { OnOk result (bench.new ≡ (link_step bench.old 1 (first_or_take (actors_view self.old).worker_calls)).bench) }
         ensures actors { OnOk result (let walk = link_step bench.old 1 (first_or_take (actors_view self.old).worker_calls) in
             actors_view self.new ≡ worker_after_step (with_next_after actor.Worker (actors_view self.old)) walk.bench walk.reach) }
         ensures driven { OnOk result (driven.new ≡ drive_of_reach 1 (link_step bench.old 1 (first_or_take (actors_view self.old).worker_calls)).reach) }
         ensures taken { OnOk result (HoldsDrivenTaken (link_in bench.new) driven.new) }
         ensures works { OnOk result (is_rest driven.new ≡ false) }
+        ensures ready { OnOk result (AreReady (actors_view self.new) bench.new) }
         ensures same { OnErr result (bench.new ≡ bench.old) }
         ensures unchanged { OnErr result (actors_view self.new ≡ actors_view self.old) }
     {

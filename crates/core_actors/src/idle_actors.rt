@@ -1,13 +1,10 @@
-ghost use Rattle.rp_base.specs.declared.limits.TheConstants.{CALLERS_MOST};
-ghost use Rattle.std.specs.Prelude.{◌≡◌, ◌<◌, false, is_some, not};
-ghost use Rattle.link_bench.specs.Benches.{begin_fault, is_in_call};
+ghost use Rattle.std.specs.Prelude.{◌≡◌, ◌<◌, not};
 ghost use Rattle.core_actors.specs.Actors.{actors_view};
-ghost use Rattle.core_actors.specs.ActorSteps.{begins_with_take, host_is_idle, host_waits, is_drained, is_empty, is_held_up, worker_is_idle, worker_waits};
+ghost use Rattle.core_actors.specs.ActorSteps.{begins_with_take, host_is_idle, host_waits, is_drained, is_empty, worker_is_idle, worker_waits};
 
 use crate::actors::Actors;
 use lane_model::Wish;
 use link_bench::Bench;
-use rp_base::CallerNo;
 use std::collections::VecDeque;
 
 impl Actors {
@@ -22,14 +19,13 @@ impl Actors {
         }
     }
 
-    /// Whether the host actor, which is in no call, begins none: it has none to make and no message
-    /// waits for it, or its next is held up.
+    /// Whether the host actor, where it is in no call, begins none: it has none to make and no message
+    /// waits for it.
     #[inline(always)]
     pub fn host_waits(&self, bench: &Bench) -> bool
-        requires { is_in_call bench.now 0 ≡ false }
         ensures { result ≡ host_waits bench.now (actors_view self.now) }
     {
-        self.host_calls.is_empty() && is_drained(bench, 0) || is_held_up(bench, 0, &self.host_calls)
+        self.host_calls.is_empty() && is_drained(bench, 0)
     }
 
     /// Whether the worker has nothing to do: it is in no call, and begins none and runs no record, as
@@ -51,16 +47,13 @@ impl Actors {
         self.worker.is_halted()
     }
 
-    /// Whether the worker, which is in no call, begins none and runs no record: it has ended, its first
-    /// call is a take of which there is no message, or its next is held up.
+    /// Whether the worker, where it is in no call, begins none and runs no record: it has ended, or its
+    /// first call is a take of which there is no message.
     #[inline(always)]
     pub fn worker_waits(&self, bench: &Bench) -> bool
-        requires { is_in_call bench.now 1 ≡ false }
         ensures { result ≡ worker_waits bench.now (actors_view self.now) }
     {
-        self.worker.is_halted()
-            || begins_with_take(&self.worker_calls) && is_drained(bench, 1)
-            || is_held_up(bench, 1, &self.worker_calls)
+        self.worker.is_halted() || begins_with_take(&self.worker_calls) && is_drained(bench, 1)
     }
 
     /// Whether the worker has a call to make.
@@ -79,32 +72,6 @@ fn begins_with_take(calls: &VecDeque<Wish>) -> bool
     match calls.front() {
         Some(Wish::Take) => true,
         Some(_) | None => false,
-    }
-}
-
-/// Whether the next call of a caller that is in none is held up: the first of these, or a take where
-/// there is none.
-fn is_held_up(bench: &Bench, caller: CallerNo, calls: &VecDeque<Wish>) -> bool
-    requires caller { caller < CALLERS_MOST }
-    requires calling { is_in_call bench.now caller ≡ false }
-    ensures { result ≡ is_held_up bench.now caller calls.now.items }
-{
-    match calls.front() {
-        Some(first) => is_refused(bench, caller, first),
-        None => is_refused(bench, caller, &Wish::Take),
-    }
-}
-
-/// Whether a caller that is in no call can't begin this one: it isn't in use, or doesn't hold what the
-/// call gives back.
-fn is_refused(bench: &Bench, caller: CallerNo, wished: &Wish) -> bool
-    requires caller { caller < CALLERS_MOST }
-    requires calling { is_in_call bench.now caller ≡ false }
-    ensures { result ≡ is_some (begin_fault bench.now caller wished.now) }
-{
-    match wished {
-        Wish::Give(number) if !bench.is_holding(caller, *number) => true,
-        _ => bench.end_of(caller).is_none(),
     }
 }
 

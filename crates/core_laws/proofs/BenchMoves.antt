@@ -1,6 +1,5 @@
 -- What the calls of a bench leave of its link is reached where it was.
-use Rattle.std.proofs.Common.{◌≡◌, ℕ, ◌+◌, eqb, cond, Bool, true, false, ◌||◌, Option, Some, None, is_some, option_and_then, slice_get, slice_set, refl, sym, ap, subst}
-use Rattle.std.specs.Option.{option_map_or}
+use Rattle.std.proofs.Common.{◌≡◌, ℕ, ◌+◌, eqb, cond, Bool, true, false, Option, Some, None, is_some, slice_get, slice_set, refl, sym, ap, subst}
 use Rattle.std.proofs.lemmas.Bool.{cond_both, true≢false}
 use Rattle.rp_base.specs.declared.kinds.End.{End}
 use Rattle.rp_base.specs.declared.limits.TheConstants.{STEPS_MOST}
@@ -9,25 +8,25 @@ use Rattle.lane_model.specs.declared.calls.LinkConfig.{LinkConfig}
 use Rattle.lane_model.specs.declared.recoveries.ReclaimRefusal.{ReclaimRefusal}
 use Rattle.lane_model.specs.Desks.{IsFreshDesk}
 use Rattle.lane_model.specs.Forms.{list_form}
-use Rattle.lane_model.specs.Links.{LinkState, end_of, free_number, lanes_of, opened_link}
-use Rattle.lane_model.specs.Conditions.{MayStep, MayEndStep, is_calling, is_in_call as is_in_call_on}
+use Rattle.lane_model.specs.Links.{LinkState, end_of, free_number, opened_link}
+use Rattle.lane_model.specs.Conditions.{is_calling}
 use Rattle.lane_model.specs.Recoveries.{link_reopen_refusal, link_reclaim_refusal, link_after_reopen}
 use Rattle.lane_laws.specs.Moves.{Enlist, Close, Reclaim}
-use Rattle.lane_model.proofs.Others.{caller_may}
 use Rattle.lane_laws.proofs.LinkRuns.{opened_new, reopened_new}
 use Rattle.channel_bus.specs.Sides.{EndState, side_meaning}
 use Rattle.channel_bus.specs.Laws.{side_laws}
 use Rattle.link_bench.specs.declared.benches.BegunCall.{BegunCall}
 use Rattle.link_bench.specs.declared.benches.Reach.TheVariants as reach
-use Rattle.link_bench.specs.Benches.{AreFitCalls, BenchState, BenchWalk, IsSendable, LinkRings, advance_steps, advance_walk, begin_fault, begin_walk, begun_call_of, bench_walk, call_steps, is_in_call, link_in, lists_of, new_bench_of, on_rings, ready_fault, wish_fault, with_begun, with_new_caller}
+use Rattle.link_bench.specs.Benches.{AreFitCalls, BenchState, BenchWalk, IsSendable, advance_steps, advance_walk, begin_fault, begin_walk, begun_call_of, bench_walk, call_steps, is_in_call, link_in, new_bench_of, on_rings, with_begun, with_new_caller}
 use Rattle.link_bench.specs.BenchCrashes.{after_close, after_reclaim, after_reopen, reclaim_leaves, reclaim_leaves_at}
 use Rattle.core_laws.specs.BenchMoves.{ComesBy, IsReachedBench}
-use Rattle.link_bench.proofs.Begun.{begin_may, fit_after, fit_cleared, fit_put, neither_fault, none_begun, none_in_none}
+use Rattle.link_bench.proofs.Begun.{begin_may, none_in_none}
 use Rattle.link_bench.proofs.Lists.{close_lists, reclaim_lists}
+use Rattle.link_bench.proofs.FitCalls.{begun_at, begun_or, calling_may, fit_advanced, fit_begun, fit_called, fit_joined}
 use Rattle.link_bench.proofs.BenchMay.{fit_closed, fit_reclaimed, fit_reopened}
 use Rattle.core_laws.proofs.LinkMoves.{comes_move, comes_none, reached_by}
 use Rattle.core_laws.proofs.ShortMoves.{short_lane}
-use Rattle.core_laws.proofs.CallMoves.{Leaves, call_leaves, later_leaves}
+use Rattle.core_laws.proofs.CallMoves.{call_comes, later_comes}
 
 -- a new bench
 pub new_reached : (config : LinkConfig) (host remote : EndState) → IsFreshDesk side_meaning host → IsFreshDesk side_meaning remote
@@ -41,83 +40,40 @@ new_reached config host remote fresh_host fresh_remote =
 
 -- a new caller
 pub enlisted : (bench : BenchState) (end : End) → IsReachedBench bench → IsReachedBench (with_new_caller bench end (free_number (link_in bench).callers))
-enlisted bench end reached = record {
-  link = reached_by (link_in bench) _ reached.link (comes_move side_meaning (link_in bench) (Enlist end) tt);
-  fit = λ caller call is. caller_may (link_in bench) end caller (Some call.wish) (reached.fit caller call is);
-}
+enlisted bench end reached =
+    record { link = reached_by (link_in bench) _ reached.link (comes_move side_meaning (link_in bench) (Enlist end) tt); fit = fit_joined bench end reached.fit }
 
 -- a call is begun
 pub begun_reached : (bench : BenchState) (caller : ℕ) (call : BegunCall) → IsReachedBench bench → begin_fault bench caller call.wish ≡ None
     → IsSendable call.wish → IsReachedBench (with_begun bench caller (Some call))
-begun_reached bench caller call reached ready sendable = record {
-  link = reached.link;
-  fit = fit_put bench.begun caller (link_in bench) call reached.fit (begin_may bench caller call.wish sendable ready);
-}
-
--- the call that is in a place
-pub begun_at : (place : Option (Option BegunCall)) (call : BegunCall) → option_and_then (λ found. found) place ≡ Some call → place ≡ Some (Some call)
-begun_at None call is = absurd (true≢false (sym (ap is_some is)))
-begun_at (Some found) call is = ap Some is
-
-no_call : (found : Option BegunCall) → is_some found ≡ false → found ≡ None
-no_call None none = refl
-no_call (Some call) none = absurd (true≢false none)
-
--- who has a call under way may do its next step
-calling_at : (link : LinkState EndState) (found : Option End) (caller : ℕ)
-    → option_map_or (λ end. is_in_call_on (lanes_of link end) caller) found false ≡ true → MayEndStep link found caller None
-calling_at link None caller is = absurd (true≢false (sym is))
-calling_at link (Some end) caller is = is
-
-pub calling_may : (link : LinkState EndState) (caller : ℕ) → is_calling link caller ≡ true → MayStep link caller None
-calling_may link caller is = record { may = calling_at link (end_of link.callers caller) caller is }
-
--- a link that steps of a caller left who has begun no call
-left_reached : (bench : BenchState) (after : LinkRings) (caller : ℕ) → IsReachedBench bench → begun_call_of bench caller ≡ None
-    → Leaves (link_in bench) (lists_of after) caller → IsReachedBench (record bench { rings = after })
-left_reached bench after caller reached none leaves = record {
-  link = reached_by (link_in bench) (lists_of after) reached.link leaves.came;
-  fit = fit_after bench.begun caller (link_in bench) (lists_of after) none reached.fit leaves.others;
-}
-
-pub begun_or : (found : Option BegunCall) (under_way : Bool) → found ≡ None → is_some found || under_way ≡ true → under_way ≡ true
-begun_or None under_way none is = is
-begun_or (Some call) under_way none is = absurd (true≢false (ap is_some none))
+begun_reached bench caller call reached ready sendable = record { link = reached.link; fit = fit_begun bench caller call ready sendable reached.fit }
 
 -- steps of the call that a caller is in
-advance_at : (bench : BenchState) (more steps caller : ℕ) (found : Option BegunCall) → begun_call_of bench caller ≡ found → is_in_call bench caller ≡ true
-    → IsReachedBench bench → IsReachedBench (advance_steps bench more steps caller found).bench
-advance_at bench more steps caller (Some call) is in_call reached =
-    let may = reached.fit caller call (begun_at (slice_get bench.begun caller) call is) in
-    let leaves = call_leaves more steps bench.rings caller call.follows call.wish may in
-    let after = (call_steps on_rings more steps bench.rings caller call.follows call.wish).link in
+advance_comes : (bench : BenchState) (more steps caller : ℕ) (found : Option BegunCall) → begun_call_of bench caller ≡ found → is_in_call bench caller ≡ true
+    → IsReachedBench bench → ComesBy side_meaning (link_in bench) (link_in (advance_steps bench more steps caller found).bench)
+advance_comes bench more steps caller (Some call) is in_call reached =
     cond_both (eqb steps STEPS_MOST) (record { bench = bench; steps = steps; reach = reach.Limit })
     (bench_walk (with_begun bench caller None) (call_steps on_rings more steps bench.rings caller call.follows call.wish))
-    (λ (walk : BenchWalk). IsReachedBench walk.bench) (λ _. reached)
-    (λ _. record {
-      link = reached_by (link_in bench) (lists_of after) reached.link leaves.came;
-      fit = fit_cleared bench.begun caller (lists_of after) (λ other one differ at. leaves.others other (Some one.wish) differ (reached.fit other one at));
-    })
-advance_at bench more steps caller None none in_call reached =
-    let may = calling_may (link_in bench) caller (begun_or (begun_call_of bench caller) (is_calling (link_in bench) caller) none in_call) in
-    left_reached bench _ caller reached none (later_leaves (more + 1) 0 steps bench.rings caller may)
+    (λ (walk : BenchWalk). ComesBy side_meaning (link_in bench) (link_in walk.bench)) (λ _. comes_none side_meaning (link_in bench))
+    (λ _. call_comes more steps bench.rings caller call.follows call.wish (reached.fit caller call (begun_at (slice_get bench.begun caller) call is)))
+advance_comes bench more steps caller None none in_call reached =
+    later_comes (more + 1) 0 steps bench.rings caller
+    (calling_may (link_in bench) caller (begun_or (begun_call_of bench caller) (is_calling (link_in bench) caller) none in_call))
 
 pub advanced : (bench : BenchState) (more steps caller : ℕ) → IsReachedBench bench → is_in_call bench caller ≡ true
     → IsReachedBench (advance_walk bench more steps caller).bench
-advanced bench more steps caller reached in_call = advance_at bench more steps caller (begun_call_of bench caller) refl in_call reached
-
--- who may begin a call has begun none
-ready_none : (bench : BenchState) (caller : ℕ) (wanted : Wish) → begin_fault bench caller wanted ≡ None → begun_call_of bench caller ≡ None
-ready_none bench caller wanted ready =
-    let both = neither_fault (ready_fault bench caller) (wish_fault bench caller wanted) ready in
-    no_call (begun_call_of bench caller) (none_begun (end_of (link_in bench).callers caller) (is_some (begun_call_of bench caller)) (is_calling (link_in bench) caller) both.0)
+advanced bench more steps caller reached in_call = record {
+  link = reached_by (link_in bench) _ reached.link (advance_comes bench more steps caller (begun_call_of bench caller) refl in_call reached);
+  fit = fit_advanced bench more steps caller in_call reached.fit;
+}
 
 -- a call from its first step on
 pub called : (bench : BenchState) (more steps caller : ℕ) (wanted : Wish) → IsReachedBench bench → begin_fault bench caller wanted ≡ None
     → IsSendable wanted → IsReachedBench (begin_walk bench more steps caller wanted).bench
-called bench more steps caller wanted reached ready sendable =
-    left_reached bench _ caller reached (ready_none bench caller wanted ready)
-    (call_leaves more steps bench.rings caller (link_in bench).era.inc wanted (begin_may bench caller wanted sendable ready))
+called bench more steps caller wanted reached ready sendable = record {
+  link = reached_by (link_in bench) _ reached.link (call_comes more steps bench.rings caller (link_in bench).era.inc wanted (begin_may bench caller wanted sendable ready));
+  fit = fit_called bench more steps caller wanted ready sendable reached.fit;
+}
 
 -- a close
 pub comes_close : (bench : BenchState) → ComesBy side_meaning (link_in bench) (link_in (after_close bench))

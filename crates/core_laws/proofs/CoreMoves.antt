@@ -1,18 +1,15 @@
 -- What the calls of a core leave of its link is reached where it was.
 use Rattle.std.proofs.Common.{◌≡◌, ℕ, cond, Bool, true, false, List, [], ◌∷◌, All, Option, Some, None, IfSome, is_some, option_map, refl, ap, arith, length, ◌≤◌}
-use Rattle.std.specs.Option.{option_or}
 use Rattle.std.proofs.lemmas.Bool.{cond_both, true≢false}
 use Rattle.rp_base.specs.declared.kinds.End.{End}
 use Rattle.rp_base.specs.declared.kinds.End.TheVariants as side
 use Rattle.lane_model.specs.declared.calls.CallEnd.{CallEnd}
 use Rattle.lane_model.specs.declared.calls.Wish.{Wish}
 use Rattle.lane_model.specs.declared.recoveries.ReclaimRefusal.{ReclaimRefusal}
-use Rattle.lane_model.specs.declared.recoveries.ReopenFault.{ReopenFault}
 use Rattle.lane_model.specs.Links.{end_of}
 use Rattle.lane_model.specs.Recoveries.{link_reopen_refusal, link_reclaim_refusal, without_caller}
 use Rattle.fw_load.specs.declared.rings.RingPair.{RingPair}
 use Rattle.link_bench.specs.declared.benches.Reach.TheVariants as reach
-use Rattle.crash_recover.specs.declared.core_faults.CoreFault.{CoreFault}
 use Rattle.crash_recover.specs.declared.core_faults.CoreFault.TheVariants as fault
 use Rattle.link_bench.specs.declared.benches.Reach.{Reach}
 use Rattle.std.proofs.lemmas.List.Elements.{All-append}
@@ -29,13 +26,17 @@ use Rattle.crash_recover.specs.CoreCrashes.{after_report}
 use Rattle.crash_recover.specs.CoreRecoveries.{after_recovery, core_to_reopen, fault_with, link_fault, reopen_fault, reopened_core, spent_fault}
 use Rattle.crash_recover.specs.Cores.{CoreState, LoadState, loaded_rings, new_core}
 use Rattle.core_actors.specs.ActorEnds.{actors_after_drivers, actors_at_end, calls_after_end, end_answer, gives_of, host_after_call, message_of, sends_of, taken_number}
+use Rattle.core_actors.specs.declared.actors.Actor.{Actor}
 use Rattle.core_actors.specs.ActorSteps.{first_or_take, host_after_step, host_at_step, host_at_step_as, link_step, wishes_of_work, worker_after_step}
-use Rattle.crash_recover.specs.Drives.{drive_step, placed_map}
-use Rattle.core_laws.proofs.DriveWalks.{AreKeptParts, MayGoOn, drive_kept, of_link}
-use Rattle.core_laws.proofs.Outcomes.{Stays, report_stays}
+use Rattle.core_actors.proofs.ReadyActors.{MayBegin}
+use Rattle.crash_recover.specs.Drives.{drive_step, placed_map, with_turn_after}
+use Rattle.core_laws.specs.DriveParts.{MayDrive}
+use Rattle.core_laws.proofs.DriveWalks.{AreLeftParts, MayGoOn, drive_left, may_host, may_worker, of_link, turned_may}
+use Rattle.core_laws.proofs.Outcomes.{Stays, first_none, none_mapped, report_stays}
 use Rattle.proc_state.specs.Lives.{CoreLife}
 use Rattle.core_laws.specs.BenchMoves.{AreSendable, IsReachedBench, IsReachedCore, IsShortLink}
 use Rattle.core_laws.proofs.Sendable.{end_short, gives_sendable, left_sendable, message_short, none_sendable, sends_sendable, work_sendable}
+use Rattle.link_bench.proofs.Begun.{begin_may}
 use Rattle.link_bench.proofs.CrashWalks.{crash_walk, remote_walk}
 use Rattle.crash_recover.proofs.KeptCrashes.{close_shut}
 use Rattle.core_laws.proofs.BenchMoves.{advanced, called, closed, enlisted, new_reached, reclaimed, reopened, reclaimable_is_shut}
@@ -94,14 +95,10 @@ clear_at : (bench : BenchState) (why : Option ReclaimRefusal) → reopen_refusal
 clear_at bench None clear = clear
 clear_at bench (Some why) clear = absurd (true≢false (ap is_some clear))
 
-first_none : (refusal : Option ReopenFault) (later : Option CoreFault) → option_or (option_map fault.Reopen refusal) later ≡ None → refusal ≡ None
-first_none None later none = refl
-first_none (Some why) later none = absurd (true≢false (ap is_some none))
-
 bench_reopened : (bench : BenchState) (is_spent : Bool) → link_fault bench is_spent ≡ None → IsReachedBench bench → IsReachedBench (after_reopen (bench_to_reopen bench))
 bench_reopened bench is_spent none reached =
     reopened (bench_to_reopen bench) (readied bench reached)
-    (clear_at bench (link_reclaim_refusal (link_in bench) 0) (first_none (reopen_refusal_of bench) (spent_fault is_spent) none))
+    (clear_at bench (link_reclaim_refusal (link_in bench) 0) (none_mapped fault.Reopen (reopen_refusal_of bench) (first_none _ (spent_fault is_spent) none)))
 
 found_reopened : (found : Option BenchState) (is_spent : Bool) → fault_with found is_spent ≡ None → IfSome found IsReachedBench
     → IfSome (option_map (λ bench. after_reopen (bench_to_reopen bench)) found) IsReachedBench
@@ -192,35 +189,61 @@ worker_sendable actors bench (reach.Ended end) are = record {
 }
 worker_sendable actors bench reach.Limit are = are
 
--- what brought its link to where it is stays over each part of a step of the actors
-pub reached_parts : AreKeptParts IsReachedCore
+-- a core whose actors may make their next steps, and what brought its link to where it is
+pub record StandsReady (core : CoreState) : Type 0 where
+  pub may : MayDrive core
+  pub reached : IsReachedCore core
+
+-- whose turn is next is nothing to it
+pub turned_stands : (who : Actor) (core : CoreState) → StandsReady core → StandsReady (with_turn_after who core)
+turned_stands who core is = record {
+  may = turned_may who core is.may;
+  reached = record { bench = is.reached.bench; calls = record { host = is.reached.calls.host; worker = is.reached.calls.worker } };
+}
+
+module _ (core : CoreState) (bench : BenchState) (there : core.bench ≡ Some bench) (is : StandsReady core) where
+  pub link_reached : IsReachedBench bench
+  link_reached = of_link IsReachedBench core bench there is.reached.bench
+
+  -- an actor in no call may do the first step of its next
+  pub host_may : MayBegin bench 0 core.actors.host_calls
+  host_may none = begin_may bench 0 (first_or_take core.actors.host_calls) (first_sendable core.actors.host_calls is.reached.calls.host) (may_host core bench there is.may none)
+
+  pub worker_may : MayBegin bench 1 core.actors.worker_calls
+  worker_may none = begin_may bench 1 (first_or_take core.actors.worker_calls) (first_sendable core.actors.worker_calls is.reached.calls.worker) (may_worker core bench there is.may none)
+
+-- each part of a step of the actors leaves a core whose link is reached
+pub reached_parts : AreLeftParts StandsReady IsReachedCore
 reached_parts = record {
-  turn = λ who core is. record { bench = is.bench; calls = record { host = is.calls.host; worker = is.calls.worker } };
-  host = λ core bench there may is.
+  turn = turned_stands;
+  host = λ core bench there busy is.
+      let calls = is.reached.calls in
       let walk = link_step bench 0 (first_or_take core.actors.host_calls) in
-      let left = step_reached bench 0 core.actors.host_calls may (of_link IsReachedBench core bench there is.bench) (first_sendable core.actors.host_calls is.calls.host) in
-      record { bench = left; calls = host_sendable (host_at_step bench core.actors) walk.bench walk.reach left.link.short (host_begun_sendable (is_in_call bench 0) core.actors is.calls) };
-  call = λ core bench there may is.
+      let left = step_reached bench 0 core.actors.host_calls (may_host core bench there is.may) (link_reached core bench there is) (first_sendable core.actors.host_calls calls.host) in
+      record { bench = left; calls = host_sendable (host_at_step bench core.actors) walk.bench walk.reach left.link.short (host_begun_sendable (is_in_call bench 0) core.actors calls) };
+  call = λ core bench there busy is.
+      let calls = is.reached.calls in
       let walk = link_step bench 1 (first_or_take core.actors.worker_calls) in
       record {
-        bench = step_reached bench 1 core.actors.worker_calls may (of_link IsReachedBench core bench there is.bench) (first_sendable core.actors.worker_calls is.calls.worker);
-        calls = worker_sendable core.actors walk.bench walk.reach is.calls;
+        bench = step_reached bench 1 core.actors.worker_calls (may_worker core bench there is.may) (link_reached core bench there is) (first_sendable core.actors.worker_calls calls.worker);
+        calls = worker_sendable core.actors walk.bench walk.reach calls;
       };
-  run = λ core load there silent is.
+  run = λ core load there silent busy is.
+      let calls = is.reached.calls in
       let map = placed_map core.regions load in
       record {
-        bench = is.bench;
+        bench = is.reached.bench;
         calls = record {
-          host = is.calls.host;
-          worker = All-append IsSendable core.actors.worker_calls (wishes_of_work (work_of load.memory map (is_some core.bench) core.actors.worker)) is.calls.worker
+          host = calls.host;
+          worker = All-append IsSendable core.actors.worker_calls (wishes_of_work (work_of load.memory map (is_some core.bench) core.actors.worker)) calls.worker
               (work_sendable load.memory map (is_some core.bench) core.actors.worker);
         };
       };
   report = core_reported;
 }
 
-pub core_driven : (core : CoreState) → IsReachedCore core → IsReachedCore (drive_step core).core
-core_driven core is = drive_kept IsReachedCore reached_parts core is
+pub core_driven : (core : CoreState) → MayDrive core → IsReachedCore core → IsReachedCore (drive_step core).core
+core_driven core may is = drive_left StandsReady IsReachedCore reached_parts (λ core is. is.reached) core (record { may = may; reached = is })
 
 -- ---- calls of others
 

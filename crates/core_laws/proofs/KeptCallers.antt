@@ -13,7 +13,7 @@ use Rattle.link_bench.specs.BenchCrashes.{after_close, after_reclaim}
 use Rattle.link_bench.specs.Benches.{BenchState, LinkRings, link_in, on_rings}
 use Rattle.link_bench.specs.BenchEnds.{crashed_bench, is_first, is_remote, with_fresh_caller, without_one, without_other, without_remote}
 use Rattle.link_bench.proofs.CrashWalks.{others_walk}
-use Rattle.crash_recover.specs.KeptCores.{AreOwnUsed}
+use Rattle.core_actors.specs.PendingCalls.{AreOwnUsed}
 use Rattle.core_laws.specs.CrashCallers.{end_after_crash}
 use Rattle.crash_recover.proofs.KeptCrashes.{close_leaves, cleared, host_is_no_remote, is_remote_end, no_end, remote_again}
 

@@ -37,9 +37,9 @@ core_reported core is = report_stays IsKeptCore kept_stays true core is
 pub kept_parts : AreKeptParts IsKeptCore
 kept_parts = record {
   turn = λ who core is. is;
-  host = λ core bench there may is. step_kept core.life bench 0 (first_or_take core.actors.host_calls) (of_link (IsKeptBench core.life) core bench there is);
-  call = λ core bench there may is. step_kept core.life bench 1 (first_or_take core.actors.worker_calls) (of_link (IsKeptBench core.life) core bench there is);
-  run = λ core load there silent is. is;
+  host = λ core bench there busy is. step_kept core.life bench 0 (first_or_take core.actors.host_calls) (of_link (IsKeptBench core.life) core bench there is);
+  call = λ core bench there busy is. step_kept core.life bench 1 (first_or_take core.actors.worker_calls) (of_link (IsKeptBench core.life) core bench there is);
+  run = λ core load there silent busy is. is;
   report = core_reported;
 }
 

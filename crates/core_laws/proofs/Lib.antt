@@ -9,13 +9,8 @@ pub mod CoreMoves
 pub mod CrashReclaims
 pub mod KeptCallers
 pub mod KeptCores
-pub mod PendingLanes
-pub mod PendingSteps
-pub mod PendingCores
-pub mod PendingDrives
-pub mod PendingOthers
+pub mod ReadyLives
 pub mod Outcomes
-pub mod SendableActs
 pub mod CoreActs
 pub mod Starts
 pub mod Beginnings

@@ -31,7 +31,7 @@ pub none_mapped : {A B : Type 0} (f : A → B) (found : Option A) → option_map
 none_mapped f None none = refl
 none_mapped f (Some why) none = absurd (true≢false (ap is_some none))
 
-first_none : {X : Type 0} (first later : Option X) → option_or first later ≡ None → first ≡ None
+pub first_none : {X : Type 0} (first later : Option X) → option_or first later ≡ None → first ≡ None
 first_none None later none = refl
 first_none (Some why) later none = absurd (true≢false (ap is_some none))
 

@@ -26,7 +26,7 @@ use Rattle.remote_core.specs.Workers.{WorkerState}
 use Rattle.remote_core.specs.Works.{announcement, destination, service_address, work_of, work_of_next, work_of_record}
 use Rattle.remote_core.specs.declared.workers.Work.{Work}
 use Rattle.remote_core.specs.declared.workers.Work.TheVariants as work
-use Rattle.rpmsg_header.specs.Headers.{head_bytes, header_bytes, payload_length, payload_of, source_of}
+use Rattle.rpmsg_header.specs.Headers.{header_bytes, payload_length, payload_of, source_of}
 use Rattle.host_driver.specs.Drivers.{DriversState, created_answer, driven_at, kind_for, message_from, newly_driven, probe_message, reply_to, sample_count, sample_text, with_delivery}
 use Rattle.host_driver.specs.declared.driven.DrivenEndpoint.{DrivenEndpoint}
 use Rattle.lane_model.specs.declared.calls.CallEnd.{CallEnd}
@@ -35,6 +35,7 @@ use Rattle.lane_model.specs.declared.calls.Wish.{Wish}
 use Rattle.lane_model.specs.declared.calls.Wish.TheVariants as wish
 use Rattle.lane_model.specs.Links.{end_of, LinkState}
 use Rattle.channel_bus.specs.Sides.{EndState}
+use Rattle.link_bench.proofs.SendableActs.{header_length}
 use Rattle.link_bench.specs.Benches.{BenchState, IsSendable, link_in, message_for}
 use Rattle.core_laws.specs.BenchMoves.{IsShortLink}
 use Rattle.core_actors.specs.ActorEnds.{calls_after_end, channel_answer, end_answer, endpoint_answer, gives_of, is_tried_again, message_of, message_of_number, sends_of, taken_number, verdict_answer}
@@ -65,13 +66,6 @@ left_sendable end calls are =
     cond_both (is_tried_again end) calls (drop 1 calls) (λ (left : List Wish). All IsSendable left) (λ _. are) (λ _. All-drop IsSendable 1 calls are)
 
 -- ---- the worker
-
--- a header has 16 bytes
-pub header_length : (src dst : ℕ) (payload : List ℕ) → length (header_bytes src dst payload) ≡ 16 + length payload
-header_length src dst payload =
-    let head : length (head_bytes src dst (length payload)) ≡ 16 = refl in
-    let both = length-append (head_bytes src dst (length payload)) payload in
-    omega (arith, head, both)
 
 slice_short : (memory : List ℕ) (at len : ℕ) → length (slice_range memory at (at + len)) ≤ len
 slice_short memory at len =

@@ -1,6 +1,5 @@
 pub mod BenchMoves
 pub mod CrashCallers
-pub mod PendingCalls
 pub mod FoundImages
 pub mod Beginnings
 pub mod ClosedLinks

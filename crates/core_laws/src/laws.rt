@@ -23,14 +23,15 @@ ghost use Rattle.link_bench.specs.BenchEnds.{bench_to_reopen, crashed_bench};
 ghost use Rattle.crash_recover.specs.CoreCrashes.{report_of};
 ghost use Rattle.crash_recover.specs.CoreLeaves.{detach_of, shutdown_of};
 ghost use Rattle.crash_recover.specs.CoreRecoveries.{core_to_reopen, recovery_fault, recovery_of, reopen_fault, reopened_core, with_next_life};
-ghost use Rattle.crash_recover.specs.Cores.{CoreState, new_core, IsKeptCore};
+ghost use Rattle.crash_recover.specs.Cores.{CoreState, new_core, IsKeptCore, IsReadyCore};
 ghost use Rattle.crash_recover.specs.CoreActs.{core_act};
 ghost use Rattle.core_actors.specs.ActorSteps.{first_or_take};
 ghost use Rattle.crash_recover.specs.Drives.{drive_step};
 ghost use Rattle.core_laws.specs.BenchMoves.{ComesBy, IsReached, IsReachedBench, IsReachedCore, WasBoundOnTheWay, history_of};
-ghost use Rattle.crash_recover.specs.KeptCores.{AreOwnUsed, IsKeptBench, IsUnmanaged};
+ghost use Rattle.core_actors.specs.PendingCalls.{AreOwnUsed, HasNoneBegun, IsReadyBench};
+ghost use Rattle.crash_recover.specs.KeptCores.{IsKeptBench, IsUnmanaged};
 ghost use Rattle.core_laws.specs.CrashCallers.{crash_reaches, end_after_crash};
-ghost use Rattle.core_laws.specs.PendingCalls.{HasNoneBegun, IsReadyBench, IsReadyCore};
+ghost use Rattle.core_laws.specs.DriveParts.{MayDrive};
 ghost use Rattle.proc_state.specs.Lives.{CoreLife, most};
 ghost use Rattle.rp_base.specs.declared.kinds.LifeState.TheVariants as state;
 ghost use Rattle.core_laws.specs.FoundImages.{FindsLoadable};
@@ -92,7 +93,7 @@ pub fn core_reached()
     ensures readied { (core : CoreState) → IsReachedCore core → IsReachedCore (core_to_reopen core) }
     ensures reopened { (core : CoreState) → IsReachedCore core → reopen_fault core ≡ None → IsReachedCore (reopened_core core) }
     ensures recovery { (core : CoreState) (found : Found) → IsReachedCore core → IsReachedCore (recovery_of core found).core }
-    ensures drive { (core : CoreState) → IsReachedCore core → IsReachedCore (drive_step core).core }
+    ensures drive { (core : CoreState) → MayDrive core → IsReachedCore core → IsReachedCore (drive_step core).core }
     ensures act { (core : CoreState) (steps : ℕ) (act : LinkAct (List ℕ)) → IsFitAct act → IsReachedCore core → IsReachedCore (core_act core steps act).core }
 {}
 
@@ -213,7 +214,7 @@ pub fn core_ready()
     ensures report { (may_step : Bool) (core : CoreState) → IsReadyCore core → IsReadyCore (report_of may_step core).core }
     ensures readied { (core : CoreState) → recovery_fault core.life ≡ None → IsReadyCore core → IsReadyCore (core_to_reopen core) }
     ensures recovery { (core : CoreState) (found : Found) → IsReadyCore core → IsReadyCore (recovery_of core found).core }
-    ensures drive { (core : CoreState) → IsReachedCore core → IsKeptCore core → IsReadyCore core → IsReadyCore (drive_step core).core }
+    ensures drive { (core : CoreState) → MayDrive core → IsReachedCore core → IsReadyCore (drive_step core).core }
     ensures act { (core : CoreState) (steps : ℕ) (act : LinkAct (List ℕ)) → IsFitAct act → IsReachedCore core → IsReadyCore core
         → IsReadyCore (core_act core steps act).core }
 {}

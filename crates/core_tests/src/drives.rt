@@ -10,19 +10,33 @@ use std::test::Fail;
 const RECIPE: &str = "image a\nentry 0\ncode 0\nbind 1024\nhalt\ntable 0x100\nvdev 7 3\n\
     vring any 4096 16\nvring any 4096 8\nend";
 
+/// Whether a core is up, and a step of its actors goes on with something.
+fn goes_on(core: &mut Core, alloc: Global) -> bool {
+    core.life().is_up() && matches!(core.drive_step(alloc), Ok(Driven::Stepped))
+}
+
+/// Whether a core is up, and a step of its worker ends a binding of the address 1024.
+fn has_bound(core: &mut Core, alloc: Global) -> bool {
+    core.life().is_up()
+        && matches!(
+            core.drive_step(alloc),
+            Ok(Driven::Ended(1, CallEnd::Bound(endpoint))) if endpoint.address == 1024 && endpoint.generation == 1
+        )
+}
+
+/// Whether a core is up, and neither of its actors makes a step.
+fn rests(core: &mut Core, alloc: Global) -> bool {
+    core.life().is_up() && matches!(core.drive_step(alloc), Ok(Driven::Idle)) && core.is_idle()
+}
+
 /// Whether the worker runs its first record, binds an endpoint in three steps and ends, and both actors rest then.
 fn binds(core: &mut Core, alloc: Global) -> bool {
     for _ in 0..3 {
-        if !matches!(core.drive_step(alloc), Ok(Driven::Stepped)) {
+        if !goes_on(core, alloc) {
             return false;
         }
     }
-    matches!(
-        core.drive_step(alloc),
-        Ok(Driven::Ended(1, CallEnd::Bound(endpoint))) if endpoint.address == 1024 && endpoint.generation == 1
-    ) && matches!(core.drive_step(alloc), Ok(Driven::Stepped))
-        && matches!(core.drive_step(alloc), Ok(Driven::Idle))
-        && core.is_idle()
+    has_bound(core, alloc) && goes_on(core, alloc) && rests(core, alloc)
 }
 
 #[test]

@@ -19,7 +19,8 @@ use Rattle.link_bench.specs.Benches.{BenchState, LinkRings, link_in}
 use Rattle.link_bench.specs.BenchEnds.{crashed_bench, is_remote, with_fresh_caller, without_remote}
 use Rattle.link_bench.proofs.CrashWalks.{crash_walk}
 use Rattle.link_bench.proofs.Lists.{close_lists, reclaim_lists}
-use Rattle.crash_recover.specs.KeptCores.{AreOwnUsed, IsKeptBench, IsKeptLink, IsUnmanaged, IsUnmanagedTurn}
+use Rattle.core_actors.specs.PendingCalls.{AreOwnUsed}
+use Rattle.crash_recover.specs.KeptCores.{IsKeptBench, IsKeptLink, IsUnmanaged, IsUnmanagedTurn}
 
 -- ---- numbers of callers
 

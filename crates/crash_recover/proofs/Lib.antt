@@ -16,3 +16,4 @@ pub mod KeptLinks
 pub mod KeptCrashes
 pub mod KeptBenches
 pub mod SoundCores
+pub mod ReadyCores

@@ -1,7 +1,9 @@
 -- A record that a worker runs by the map of a load is one that it runs by what was placed: maps that place the same ranges at the same places are one to it.
-use Rattle.std.proofs.Common.{◌≡◌, ℕ, ◌≤◌, Bool, true, false, cond, ◌&&◌, eqb, List, ◌++◌, Option, Some, None, Result, Ok, Err, is_ok, ok_or, is_some, refl, ap, sym, ◌∙◌, arith}
+use Rattle.std.proofs.Common.{◌≡◌, ℕ, ◌≤◌, Bool, true, false, cond, ◌&&◌, eqb, List, ◌++◌, length, Option, Some, None, Result, Ok, Err, is_ok, ok_or, is_some, refl, ap, sym, ◌∙◌, arith}
 use Rattle.std.specs.Option.{option_and_then}
 use Rattle.std.proofs.lemmas.Bool.{eqb-false}
+use Rattle.memory_pool.specs.declared.regions.Region.{Region}
+use Rattle.fw_load.specs.declared.loading.Loaded.{Loaded}
 use Rattle.addr_translate.specs.Maps.{Mapping, place_at}
 use Rattle.remote_code.specs.declared.faults.WorkerFault.{WorkerFault}
 use Rattle.remote_code.specs.declared.faults.WorkerFault.TheVariants.{CodeUnmapped}
@@ -15,7 +17,7 @@ use Rattle.remote_core.specs.Works.{service_address, announcement, destination, 
 use Rattle.remote_core.specs.Workers.{WorkerState}
 use Rattle.remote_core.specs.declared.workers.Work.{Work}
 use Rattle.remote_core.specs.declared.workers.Work.TheVariants as work
-use Rattle.crash_recover.specs.Cores.{CoreState, LoadState}
+use Rattle.crash_recover.specs.Cores.{CoreState, IsSoundLoad, LoadState}
 use Rattle.core_actors.specs.ActorSteps.{drive_of_work, wishes_of_work}
 use Rattle.crash_recover.specs.Drives.{DriveStep, placed_map, record_run, run_by}
 
@@ -133,3 +135,16 @@ runs_alike core load one other alike =
 pub record_ran : (core : CoreState) (load : LoadState) (map : Mapping) → PlacesAlike map (placed_map core.regions load) → core.loaded ≡ Some load → run_by core load map ≡ record_run core core.loaded
 record_ran core load map alike given =
     runs_alike core load map (placed_map core.regions load) alike ∙ sym (ap (record_run core) given)
+
+-- what a record writes leaves a load sound
+pub sound_ran : (regions : List Region) (loaded : Loaded) (memory : List ℕ) → length memory ≡ length loaded.memory → IsSoundLoad regions loaded → IsSoundLoad regions (record loaded { memory = memory })
+sound_ran regions loaded memory same is = record {
+  placed = is.placed;
+  few = is.few;
+  map = is.map;
+  length = same ∙ is.length;
+  traces = is.traces;
+  rings = is.rings;
+  buffers = is.buffers;
+  entry = is.entry;
+}

@@ -20,7 +20,7 @@ use Rattle.host_driver.specs.declared.drivers.DriverFault.TheVariants as driver
 use Rattle.core_actors.specs.Actors.{ActorsState, new_actors}
 use Rattle.core_actors.specs.Actors.{with_driver as actors_with_driver}
 use Rattle.link_bench.specs.Benches.{BenchState}
-use Rattle.crash_recover.specs.KeptCores.{IsKeptBench}
+use Rattle.crash_recover.specs.KeptCores.{IsKeptBench, IsReadyLink}
 use Rattle.crash_recover.specs.declared.core_faults.AddFault.{AddFault}
 use Rattle.crash_recover.specs.declared.core_faults.AddFault.TheVariants as add
 
@@ -125,15 +125,20 @@ pub record IsSoundLoad (regions : List Region) (loaded : Loaded) : Type 0 where
   pub buffers : IfSome loaded.rings HasBuffers
   pub entry : is_some (memory_at regions loaded.placed.blocks.items loaded.entry 16) ≡ true
 
--- what a core keeps: its book is one that a lane may have, what it was given is sound, it has an image and what that became exactly while it is not offline, no link without users, and what its link keeps
-pub record SoundCore (regions : List Region) (messages : ℕ) (life : CoreLife) (name : Option (List ℕ)) (given : Option Loaded) (link : Option BenchState) : Type 0 where
+-- what a core keeps: its book is one that a lane may have, what it was given is sound, it has an image and what that became exactly while it is not offline, no link without users, what its link keeps, and that this stands ready for its actors
+pub record SoundCore (regions : List Region) (messages : ℕ) (life : CoreLife) (name : Option (List ℕ)) (given : Option Loaded) (link : Option BenchState) (actors : ActorsState) : Type 0 where
   pub book : (1 ≤ messages) × (messages ≤ BOOK_MOST)
   pub loaded : IfSome given (IsSoundLoad regions)
   pub has_image : is_some name ≡ not (is_offline life.state)
   pub has_load : is_some given ≡ not (is_offline life.state)
   pub unlinked : life.users ≡ 0 → link ≡ None
   pub kept : IfSome link (IsKeptBench life)
+  pub ready : IsReadyLink life.state actors link
 
 -- the link that a core has, if it has one, keeps what it is to keep in the core's life (own)
 abbrev pub IsKeptCore : CoreState → Type 0
 IsKeptCore core = IfSome core.bench (IsKeptBench core.life)
+
+-- and it stands ready for the core's actors (own)
+abbrev pub IsReadyCore : CoreState → Type 0
+IsReadyCore core = IsReadyLink core.life.state core.actors core.bench

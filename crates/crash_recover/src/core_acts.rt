@@ -30,6 +30,7 @@ impl Core {
         let Some(bench) = &mut self.bench else {
             return Ok(None);
         };
+        bench.show_sound();
         let answer = bench.act(OWN_CALLERS, &mut self.actors, act, steps)?;
         Ok(Some(answer))
     }

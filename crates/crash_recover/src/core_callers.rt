@@ -89,10 +89,11 @@ impl Core {
         let Some(bench) = &mut self.bench else {
             unreachable!()
         };
-        if let Some(fault) = bench.step_fault(caller) {
-            return Err(StepFault::Bench(fault));
+        bench.show_sound();
+        match bench.step_fault(caller) {
+            Some(fault) => Err(StepFault::Bench(fault)),
+            None => Ok(self.actors.step_of(bench, caller)?),
         }
-        Ok(self.actors.step_of(bench, caller)?)
     }
 
     /// Reclaims a caller of the core's link, as [`Bench::reclaim`] does.

@@ -1,8 +1,9 @@
 ghost use Rattle.std.specs.Prelude.{◌≡◌, false, true, is_some, OnErr, OnOk, IfOk, IfSome};
 ghost use Rattle.channel_bus.specs.Sides.{EndState};
 ghost use Rattle.lane_model.specs.Links.{LinkState};
+ghost use Rattle.proc_state.specs.Lives.{is_up};
 ghost use Rattle.core_actors.specs.declared.actors.Actor.TheVariants as actor;
-ghost use Rattle.core_actors.specs.ActorSteps.{HoldsDrivenTaken, is_rest};
+ghost use Rattle.core_actors.specs.ActorSteps.{HoldsDrivenTaken, has_calls, is_rest};
 ghost use Rattle.link_bench.specs.Benches.{link_in};
 ghost use Rattle.crash_recover.specs.CoreCrashes.{after_report, report_of};
 ghost use Rattle.crash_recover.specs.Drives.{closed_by, core_with_report, drive_step, driven_with_report, is_idle, is_idle_actor, record_run, record_step, step_or_rest, with_turn_after};
@@ -16,8 +17,7 @@ use std::alloc::Global;
 impl Core {
     /// Whether neither actor of the core has anything to do: the host actor is in no call, has none to
     /// make, and no message waits for it; the worker is in no call, and has ended or waits for a
-    /// message; or its next call is held up. Without a link there is only the worker, and without
-    /// memory none.
+    /// message. Without a link there is only the worker, and without memory none.
     pub fn is_idle(&self) -> bool
         ensures { result ≡ is_idle self.now }
     {
@@ -25,7 +25,7 @@ impl Core {
             && (self.loaded.is_none() || self.actors.is_worker_idle(&self.bench))
     }
 
-    /// One step of the actors of a core that is running. The one whose turn is next makes it, unless
+    /// One step of the actors of a core that is up. The one whose turn is next makes it, unless
     /// it has nothing to do; then the turn is the other's. A call under way goes on by one step; else
     /// the first call that is yet to be made does its first; else the host actor begins a take, and
     /// the worker runs one record. What the ends of the host's calls have its drivers send is the last
@@ -33,6 +33,7 @@ impl Core {
     ///
     /// Errors: only for want of memory. The core is as it was then.
     pub fn drive_step(&mut self, alloc: Global) -> Result<Driven, NoMemory>
+        requires { is_up self.old.life.state ≡ true }
         ensures driven { IfOk result (λ driven. driven ≡ (drive_step self.old).driven) }
         ensures taken { IfOk result (λ driven. IfSome self.new.bench (λ bench. HoldsDrivenTaken (link_in bench) driven)) }
         ensures left { OnOk result (self.new ≡ (drive_step self.old).core) }
@@ -48,6 +49,7 @@ impl Core {
     /// Errors: only for want of memory. The core is as it was then.
     #[inline]
     pub fn drive_on(&mut self, _alloc: Global, driven: &mut Driven) -> Result<(), NoMemory>
+        requires { is_up self.old.life.state ≡ true }
         ensures rests { OnOk result (is_rest driven.new ≡ is_idle self.old) }
         ensures driven { OnOk result (driven.new ≡ (drive_step self.old).driven) }
         ensures taken { OnOk result (IfSome self.new.bench (λ bench. HoldsDrivenTaken (link_in bench) driven.new)) }
@@ -74,6 +76,7 @@ impl Core {
     /// A step of the host actor, unless it has nothing to do. The next turn is the worker's then.
     #[inline(always)]
     fn host_step(&mut self, driven: &mut Driven) -> Result<(), NoMemory>
+        requires { is_up self.old.life.state ≡ true }
         ensures rests { OnOk result (is_rest driven.new ≡ is_idle_actor self.old actor.Host) }
         ensures driven { OnOk result (driven.new ≡ (step_or_rest actor.Host self.old).driven) }
         ensures taken { OnOk result (IfSome self.new.bench (λ bench. HoldsDrivenTaken (link_in bench) driven.new)) }
@@ -95,6 +98,7 @@ impl Core {
     /// A step of the worker, unless it has nothing to do. The next turn is the host actor's then.
     #[inline(always)]
     fn worker_step(&mut self, driven: &mut Driven) -> Result<(), NoMemory>
+        requires { is_up self.old.life.state ≡ true }
         ensures rests { OnOk result (is_rest driven.new ≡ is_idle_actor self.old actor.Worker) }
         ensures driven { OnOk result (driven.new ≡ (step_or_rest actor.Worker self.old).driven) }
         ensures taken { OnOk result (IfSome self.new.bench (λ bench. HoldsDrivenTaken (link_in bench) driven.new)) }
@@ -125,10 +129,11 @@ impl Core {
         self.actors.worker_step(bench, goes_on, driven)
     }
 
-    /// The worker of a core that is loaded runs one record. A crash is reported.
+    /// The worker of a core that is loaded, which makes no call, runs one record. A crash is reported.
     #[inline(always)]
     fn record_step(&mut self, driven: &mut Driven) -> Result<(), NoMemory>
-        requires { is_some self.old.loaded ≡ true }
+        requires loaded { is_some self.old.loaded ≡ true }
+        requires silent { has_calls self.old.bench self.old.actors ≡ false }
         ensures works { OnOk result (is_rest driven.new ≡ false) }
         ensures driven { OnOk result (driven.new ≡ (record_step (with_turn_after actor.Worker self.old)).driven) }
         ensures taken { OnOk result ((link : LinkState EndState) → HoldsDrivenTaken link driven.new) }
@@ -140,10 +145,12 @@ impl Core {
         Ok(())
     }
 
-    /// The worker of a core that is loaded runs one record. A crash is not reported yet.
+    /// The worker of a core that is loaded, which makes no call, runs one record. A crash is not reported
+    /// yet.
     #[inline(always)]
     fn run_record(&mut self, driven: &mut Driven) -> Result<(), NoMemory>
-        requires { is_some self.old.loaded ≡ true }
+        requires loaded { is_some self.old.loaded ≡ true }
+        requires silent { has_calls self.old.bench self.old.actors ≡ false }
         ensures works { OnOk result (is_rest driven.new ≡ false) }
         ensures driven { OnOk result (driven.new ≡ (record_run (with_turn_after actor.Worker self.old) self.old.loaded).driven) }
         ensures taken { OnOk result ((link : LinkState EndState) → HoldsDrivenTaken link driven.new) }

@@ -1,7 +1,7 @@
 ghost use Rattle.std.specs.Prelude.{◌≡◌, ◌≤◌, ◌++◌, [], ◌∷◌, length, None, Some, is_some, not, OnOk, OnErr, IfOk, IfErr, option_map};
 ghost use Rattle.std.specs.Option.{option_copied, option_or};
 ghost use Rattle.rp_base.specs.declared.limits.TheConstants.{BOOK_MOST};
-ghost use Rattle.crash_recover.specs.Cores.{IsKeptCore, add_fault, core_memory, core_trace, driver_add_fault, load_view, new_core, with_driver};
+ghost use Rattle.crash_recover.specs.Cores.{IsKeptCore, IsReadyCore, add_fault, core_memory, core_trace, driver_add_fault, load_view, new_core, with_driver};
 ghost use Rattle.proc_state.specs.Lives.{is_offline};
 ghost use Rattle.crash_recover.specs.declared.core_faults.AddFault.TheVariants as add;
 
@@ -46,7 +46,7 @@ impl Model for Core {
       actors = actors_view a.actors;
     } };
 
-    ghost invariant = { λ a. SoundCore a.regions a.book a.life a.image a.loaded a.bench };
+    ghost invariant = { λ a. SoundCore a.regions a.book a.life a.image a.loaded a.bench (actors_view a.actors) };
 }
 
 impl Core {
@@ -146,11 +146,13 @@ impl Core {
 
     /// The link of the core, or none where the core has no users or its image no device for RPMsg. The
     /// core's own callers are in use on it, 0 at the host and 1 at the remote, and it is in the incarnation
-    /// of the core's life, live exactly while the core is up.
+    /// of the core's life, live exactly while the core is up. It stands ready for the core's actors: neither
+    /// has begun a call without a step of it, and while the core is up they hold what their calls give back.
     pub fn link(&self) -> Option<&Bench>
         ensures link { option_copied result ≡ self.now.bench }
         ensures unlinked { self.now.life.users ≡ 0 → result ≡ None }
         ensures kept { IsKeptCore self.now }
+        ensures ready { IsReadyCore self.now }
     {
         self.bench.as_ref()
     }

@@ -1,5 +1,5 @@
 -- The steps of the actors of a core from its boot on.
-use Rattle.std.proofs.Common.{◌≡◌, ◌≤◌, ℕ, true, false, List, [], Option, Some, None, IfSome, option_map, refl, arith}
+use Rattle.std.proofs.Common.{◌≡◌, ◌≤◌, inl, ℕ, true, false, List, [], Option, Some, None, IfSome, option_map, refl, arith}
 use Rattle.rp_base.specs.Limits.{ring_capacity}
 use Rattle.fw_load.specs.declared.rings.RingPair.{RingPair}
 use Rattle.proc_state.specs.Lives.{CoreLife, is_up}
@@ -11,9 +11,9 @@ use Rattle.crash_recover.specs.Drives.{placed_map}
 use Rattle.demo_laws.proofs.ActorBounds.{LinkWithin}
 use Rattle.demo_laws.proofs.DriveBounds.{IsProgram, IsWithin, OnLink}
 use Rattle.core_laws.proofs.CoreMoves.{started_reached}
-use Rattle.crash_recover.proofs.KeptBenches.{found_same}
+use Rattle.crash_recover.proofs.ReadyCores.{started_ready}
 use Rattle.core_laws.proofs.KeptCores.{started_kept}
-use Rattle.core_laws.proofs.PendingOthers.{started_ready}
+use Rattle.run_laws.proofs.CoresReady.{sound_stays}
 use Rattle.link_bench.specs.Benches.{link_in}
 
 -- both rings have room for three messages
@@ -61,26 +61,20 @@ module _ (Fits : WorkerState → Type 0) (records credit : WorkerState → ℕ) 
       → IsWithin Fits records credit (started_core life (with_load core name load)) within
   boot_within core name load life within up program fits roomy few one =
       let core = with_load core name load in record {
-        load = load;
-        loaded = refl;
-        program = program;
-        fits = fits;
-        reached = started_reached core life;
-        kept = started_kept core life up;
-        ready = started_ready core life;
-        on = new_on core.actors load.entry within _ core.book _ load.rings roomy few one;
+        goes = record {
+          load = load;
+          loaded = refl;
+          program = program;
+          fits = fits;
+          on = new_on core.actors load.entry within _ core.book _ load.rings roomy few one;
+        };
+        sound = record { reached = started_reached core life; kept = started_kept core life up; ready = started_ready core life };
       }
 
   -- users that come and go change nothing of that
   pub users_within : (core : CoreState) (users within : ℕ) → IsWithin Fits records credit core within
       → IsWithin Fits records credit (record core { life = record core.life { users = users } }) within
   users_within core users within is = record {
-    load = is.load;
-    loaded = is.loaded;
-    program = is.program;
-    fits = is.fits;
-    reached = record { bench = is.reached.bench; calls = is.reached.calls };
-    kept = found_same core.life (record core.life { users = users }) core.bench (record { inc = refl; up = refl }) is.kept;
-    ready = record { begun = is.ready.begun; calls = is.ready.calls };
-    on = is.on;
+    goes = record { load = is.goes.load; loaded = is.goes.loaded; program = is.goes.program; fits = is.goes.fits; on = is.goes.on };
+    sound = sound_stays.same core (record core.life { users = users }) core.image core.loaded (record { inc = refl; up = refl }) (inl refl) is.sound;
   }

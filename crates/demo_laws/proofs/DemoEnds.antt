@@ -27,7 +27,7 @@ use Rattle.crash_recover.specs.declared.core_answers.Leave.TheVariants as leave
 use Rattle.crash_recover.specs.declared.core_answers.Start.{Start}
 use Rattle.crash_recover.specs.declared.core_answers.Start.TheVariants as start
 use Rattle.link_bench.specs.BenchHolds.{caller_out}
-use Rattle.crash_recover.specs.Cores.{CoreOutcome, CoreState, driver_add_fault, refuse_or, IsKeptCore}
+use Rattle.crash_recover.specs.Cores.{CoreOutcome, CoreState, driver_add_fault, refuse_or}
 use Rattle.crash_recover.specs.Drives.{drive_step, placed_map}
 use Rattle.command_run.specs.CoreDrives.{drive_effect, drive_steps, is_crashed}
 use Rattle.command_run.specs.CoreEffects.{CoreEffect, core_tells, core_tells_all}
@@ -61,26 +61,19 @@ use Rattle.link_commands.specs.NamedLinks.{NamedLink}
 use Rattle.command_run.specs.Stores.{store_of}
 use Rattle.script_run.specs.Demos.{bare_effect}
 use Rattle.command_run.specs.Runs.{ObjectsState, Run, RunEffect, RunState, effect_by_core_place, core_made_effect, core_place, effect_of, effect_of_core, effect_of_link, has_image, image_effect, is_full, effect_by_link_place, name_effect, new_run, place_of, quiet_effect, run_from, run_of, run_tells, unnamed_effect, with_image, without_link_effect}
-use Rattle.script_run.proofs.DemoSums.{bare_is, goes_on as goes_on_run, script_runnable}
+use Rattle.script_run.proofs.DemoSums.{bare_is, goes_on as goes_on_run}
 use Rattle.command_run.proofs.RunSteps.{run_none}
 use Rattle.run_laws.specs.Drives.{after_steps, drive_made, rests}
 use Rattle.run_laws.proofs.RunWalks.{item_at}
 use Rattle.run_laws.proofs.ScriptDrives.{awake, drive_as, steps_keep}
 use Rattle.fw_load.specs.Loading.{Loads, load_fault}
 use Rattle.remote_core.specs.Workers.{WorkerState, new_worker}
-use Rattle.script_lang.specs.Runnable.{AreRunnable}
-use Rattle.image_maker.proofs.DemoSizes.{demo_is_said}
-use Rattle.image_maker.specs.Demo.{demo_text}
 use Rattle.crash_recover.specs.declared.core_faults.CoreFault.TheVariants as core_fault
-use Rattle.core_laws.specs.BenchMoves.{IsReachedBench, IsReachedCore}
-use Rattle.core_laws.specs.PendingCalls.{IsReadyCore}
 use Rattle.demo_laws.proofs.BootBounds.{AreRoomy, boot_within, users_within}
 use Rattle.demo_laws.proofs.DriveBounds.{IsProgram, IsWithin, drive_within, more_on}
 use Rattle.crash_recover.proofs.SameLives.{no_first}
 use Rattle.core_laws.proofs.Outcomes.{none_mapped, refused}
-use Rattle.run_laws.proofs.CoresKept.{effect_kept}
-use Rattle.run_laws.proofs.CoresReady.{AreSound, effect_ready}
-use Rattle.run_laws.proofs.RunsReached.{effect_reached}
+use Rattle.run_laws.proofs.RegionsSound.{regions_driven}
 
 -- the images of a demo's workers, where they load, have a program of so few records, and rings with room
 pub record AreBootable (Fits : WorkerState → Type 0) (records credit : WorkerState → ℕ) : Type 0 where
@@ -133,14 +126,14 @@ module _ (Fits : WorkerState → Type 0) (records credit : WorkerState → ℕ) 
   -- more steps are enough too
   more_within : (core : CoreState) (within most : ℕ) → within ≤ most → DrivesWithin core within → DrivesWithin core most
   more_within core within most less is = record {
-    load = is.load;
-    loaded = is.loaded;
-    program = is.program;
-    fits = is.fits;
-    reached = is.reached;
-    kept = is.kept;
-    ready = is.ready;
-    on = more_on Fits records credit core.actors core.bench within most less is.on;
+    goes = record {
+      load = is.goes.load;
+      loaded = is.goes.loaded;
+      program = is.goes.program;
+      fits = is.goes.fits;
+      on = more_on Fits records credit core.actors core.bench within most less is.goes.on;
+    };
+    sound = is.sound;
   }
 
   -- a drive that ends with the step of this number, or before
@@ -163,7 +156,7 @@ module _ (Fits : WorkerState → Type 0) (records credit : WorkerState → ℕ) 
         let next = (drive_step core).core in
         let step = drive_within Fits records credit core (last - steps) runs.1 runs.0 (awake core on).1 in
         let left : (last - steps - 1) ≡ (last - (steps + 1)) = omega arith in record {
-          regions = step.regions ∙ goes.regions;
+          regions = regions_driven (λ (regions : List Region). regions ≡ standard_regions) core goes.regions;
           few = omega (arith, step.some);
           came = subst (λ within. (next.life.state ≡ Crashed) ⊎ ((next.life.state ≡ Running) × DrivesWithin next within)) left step.came;
         }) goes.came
@@ -385,17 +378,12 @@ module _ (Fits : WorkerState → Type 0) (records credit : WorkerState → ℕ) 
   -- a command on what has its name
   module _ (run : RunState) (called : List ℕ) (wanted : NamedAct (List ℕ)) (within : ℕ) (are : AreCalm run.objects)
       (on_link : (named : NamedLink) → ((link_effect named run.steps wanted).ending ≡ None) × ((link_effect named run.steps wanted).steps ≡ run.steps))
-      (sound : AreSound run.objects)
-      (on_core : (named : NamedCoreState) → IsCalm named.core → IsReachedCore named.core → IsKeptCore named.core → IsReadyCore named.core
-      → LeavesCalm run.steps within (core_effect run.objects.images (Err fetch_fault.Missing) run.objects.is_quiet named run.steps wanted))
+      (on_core : (named : NamedCoreState) → IsCalm named.core → LeavesCalm run.steps within (core_effect run.objects.images (Err fetch_fault.Missing) run.objects.is_quiet named run.steps wanted))
       (on_none : LeavesRun run.steps within (unnamed_effect run called wanted)) where
     core_at : (place : ℕ) (found : Option NamedCoreState) → slice_get run.objects.cores place ≡ found → LeavesRun run.steps within (effect_of_core (Err fetch_fault.Missing) run called wanted place found)
     core_at place None none = on_none
     core_at place (Some named) found =
-        let left = on_core named (item_at (λ (named : NamedCoreState). IsCalm named.core) run.objects.cores place named found are.cores)
-        (item_at (λ (named : NamedCoreState). IsReachedCore named.core) run.objects.cores place named found sound.reached.cores)
-        (item_at (λ (named : NamedCoreState). IsKeptCore named.core) run.objects.cores place named found sound.kept)
-        (item_at (λ (named : NamedCoreState). IsReadyCore named.core) run.objects.cores place named found sound.ready) in record {
+        let left = on_core named (item_at (λ (named : NamedCoreState). IsCalm named.core) run.objects.cores place named found are.cores) in record {
           calm = record { cores = All-set (λ (named : NamedCoreState). IsCalm named.core) run.objects.cores place _ left.calm are.cores; images = are.images };
           ending = left.ending;
           steps = left.steps;
@@ -419,11 +407,11 @@ module _ (Fits : WorkerState → Type 0) (records credit : WorkerState → ℕ) 
     located (Some place) = link_at place (slice_get run.objects.links place)
 
   abbrev Leaves : Command → ℕ → Type 0
-  Leaves wanted within = (run : RunState) → AreCalm run.objects → AreSound run.objects → run.steps + within ≤ STEPS_MOST → LeavesRun run.steps within (effect_of (Err fetch_fault.Missing) run wanted)
+  Leaves wanted within = (run : RunState) → AreCalm run.objects → run.steps + within ≤ STEPS_MOST → LeavesRun run.steps within (effect_of (Err fetch_fault.Missing) run wanted)
 
   quiet_leaves : (set : Switch) → Leaves (command.Quiet set) 0
   unfolding effect_of quiet_effect
-  quiet_leaves set run are sound few = record { calm = record { cores = are.cores; images = are.images }; ending = refl; steps = omega arith }
+  quiet_leaves set run are few = record { calm = record { cores = are.cores; images = are.images }; ending = refl; steps = omega arith }
 
   core_made : (name : List ℕ) (book : ℕ) (run : RunState) → AreCalm run.objects → LeavesRun run.steps 0 (core_made_effect run name regions.Standard book)
   unfolding core_made_effect
@@ -440,32 +428,32 @@ module _ (Fits : WorkerState → Type 0) (records credit : WorkerState → ℕ) 
 
   core_leaves : (name : List ℕ) (book : ℕ) → Leaves (command.Core name regions.Standard book) 0
   unfolding effect_of name_effect link_effect core_effect core_act_effect unnamed_effect
-  core_leaves name book run are sound few =
-      located run name (under.Make (making.Core regions.Standard book)) 0 are (λ named. (refl, refl)) sound (λ named is reached kept ready. told_calm named.core run.steps 0 _ is) (core_made name book run are)
+  core_leaves name book run are few =
+      located run name (under.Make (making.Core regions.Standard book)) 0 are (λ named. (refl, refl)) (λ named is. told_calm named.core run.steps 0 _ is) (core_made name book run are)
       (place_of run.objects.links name)
 
   driver_leaves : (name channel : List ℕ) (kind : DriverKind) → Leaves (command.Driver name channel kind) 0
   unfolding effect_of name_effect link_effect core_effect core_act_effect unnamed_effect
-  driver_leaves name channel kind run are sound few =
-      located run name (under.Core (act.Driver channel kind)) 0 are (λ named. (refl, refl)) sound (λ named is reached kept ready. driver_calm named.name named.core run.steps is channel kind) (run_told_calm run 0 _ are)
+  driver_leaves name channel kind run are few =
+      located run name (under.Core (act.Driver channel kind)) 0 are (λ named. (refl, refl)) (λ named is. driver_calm named.name named.core run.steps is channel kind) (run_told_calm run 0 _ are)
       (place_of run.objects.links name)
 
   boot_leaves : (name image : List ℕ) → Leaves (command.Boot name image) 0
   unfolding effect_of name_effect link_effect core_effect core_act_effect unnamed_effect
-  boot_leaves name image run are sound few =
-      located run name (under.Core (act.Start (start_act.Boot image))) 0 are (λ named. (refl, refl)) sound (λ named is reached kept ready. boot_calm named.name image named.core run.steps is run.objects.images are.images) (run_told_calm run 0 _ are)
+  boot_leaves name image run are few =
+      located run name (under.Core (act.Start (start_act.Boot image))) 0 are (λ named. (refl, refl)) (λ named is. boot_calm named.name image named.core run.steps is run.objects.images are.images) (run_told_calm run 0 _ are)
       (place_of run.objects.links name)
 
   drive_leaves : (name : List ℕ) (count : ℕ) → Leaves (command.Drive name count) 7999
   unfolding effect_of name_effect link_effect core_effect core_act_effect unnamed_effect
-  drive_leaves name count run are sound few =
-      located run name (under.Core (act.Drive count)) 7999 are (λ named. (refl, refl)) sound (λ named is reached kept ready. drive_calm named.name run.objects.is_quiet named.core run.steps count is few) (run_told_calm run 7999 _ are)
+  drive_leaves name count run are few =
+      located run name (under.Core (act.Drive count)) 7999 are (λ named. (refl, refl)) (λ named is. drive_calm named.name run.objects.is_quiet named.core run.steps count is few) (run_told_calm run 7999 _ are)
       (place_of run.objects.links name)
 
   shutdown_leaves : (name : List ℕ) → Leaves (command.Shutdown name) 1
   unfolding effect_of name_effect link_effect core_effect core_act_effect unnamed_effect
-  shutdown_leaves name run are sound few =
-      located run name (under.Core act.Shutdown) 1 are (λ named. (refl, refl)) sound (λ named is reached kept ready. shutdown_calm named.name named.core run.steps is few) (run_told_calm run 1 _ are)
+  shutdown_leaves name run are few =
+      located run name (under.Core act.Shutdown) 1 are (λ named. (refl, refl)) (λ named is. shutdown_calm named.name named.core run.steps is few) (run_told_calm run 1 _ are)
       (place_of run.objects.links name)
 
   imaged : (name : List ℕ) (reply : ℕ) (run : RunState) → reply < 497 → AreCalm run.objects → LeavesRun run.steps 0 (image_effect run name (worker_lines reply))
@@ -481,30 +469,25 @@ module _ (Fits : WorkerState → Type 0) (records credit : WorkerState → ℕ) 
 
   image_leaves : (name : List ℕ) (reply : ℕ) → reply < 497 → Leaves (command.Image name (worker_lines reply)) 0
   unfolding effect_of
-  image_leaves name reply small run are sound few = imaged name reply run small are
+  image_leaves name reply small run are few = imaged name reply run small are
 
   -- ---- runs
 
   -- these commands do at most so many steps, and go to their end
   abbrev EndsWithin : List Command → ℕ → Type 0
-  EndsWithin commands within = (run : RunState) → AreRunnable commands → AreCalm run.objects → AreSound run.objects → run.steps + within ≤ STEPS_MOST → (run_from (store_of []) run commands).ending ≡ None
+  EndsWithin commands within = (run : RunState) → AreCalm run.objects → run.steps + within ≤ STEPS_MOST → (run_from (store_of []) run commands).ending ≡ None
 
   ends_none : EndsWithin [] 0
-  ends_none run runs are sound few = ap (λ (left : Run). left.ending) (run_none (store_of []) run)
+  ends_none run are few = ap (λ (left : Run). left.ending) (run_none (store_of []) run)
 
   ends_first : (first : Command) (more : List Command) (within later : ℕ) → Leaves first within → EndsWithin more later → EndsWithin (first ∷ more) (within + later)
-  ends_first first more within later leaves rest run runs are sound few =
-      let left = subst (LeavesRun run.steps within) (bare_is run first) (leaves run are sound (omega (arith, few))) in
-      let next = subst (λ (effect : RunEffect). AreSound effect.run.objects) (bare_is run first) (record {
-        reached = effect_reached (Err fetch_fault.Missing) run first runs.0 sound.reached;
-        kept = effect_kept (Err fetch_fault.Missing) run first sound.kept;
-        ready = effect_ready (Err fetch_fault.Missing) run first runs.0 sound.reached sound.kept sound.ready;
-      }) in
-      goes_on_run run first more left.ending ∙ rest (bare_effect run first).run runs.1 left.calm next (omega (arith, few, left.steps))
+  ends_first first more within later leaves rest run are few =
+      let left = subst (LeavesRun run.steps within) (bare_is run first) (leaves run are (omega (arith, few))) in
+      goes_on_run run first more left.ending ∙ rest (bare_effect run first).run left.calm (omega (arith, few, left.steps))
 
   -- more steps are enough too
   enough : (commands : List Command) (within most : ℕ) → within ≤ most → EndsWithin commands within → EndsWithin commands most
-  enough commands within most less ends run runs are sound few = ends run runs are sound (omega (arith, few, less))
+  enough commands within most less ends run are few = ends run are (omega (arith, few, less))
 
   module _ (more : List Command) (later : ℕ) (rest : EndsWithin more later) where
     core_ends : (session : ℕ) → EndsWithin (core_commands session ++ more) later
@@ -537,17 +520,10 @@ module _ (Fits : WorkerState → Type 0) (records credit : WorkerState → ℕ) 
   sessions_end seed (suc session) more later rest =
       let reply = reply_length (number_at seed (suc session)) in
       subst (λ (commands : List Command). EndsWithin commands (8000 * suc session + later)) (sym (append_assoc (first_sessions seed session) (session_commands session reply) more))
-      (λ run runs are sound few. sessions_end seed session (session_commands session reply ++ more) (8000 + later) (session_ends session reply more later (omega arith) rest) run runs are sound (omega (arith, few)))
+      (λ run are few. sessions_end seed session (session_commands session reply ++ more) (8000 + later) (session_ends session reply more later (omega arith) rest) run are (omega (arith, few)))
 
   none_calm : AreCalm new_run.objects
   none_calm = record { cores = All-nil (λ (named : NamedCoreState). IsCalm named.core); images = All-nil (λ (image : ImageState). IsDemoImage image.bytes) }
-
-  none_sound : AreSound new_run.objects
-  none_sound = record {
-    reached = record { links = All-nil (λ (named : NamedLink). IsReachedBench named.bench); cores = All-nil (λ (named : NamedCoreState). IsReachedCore named.core) };
-    kept = All-nil (λ (named : NamedCoreState). IsKeptCore named.core);
-    ready = All-nil (λ (named : NamedCoreState). IsReadyCore named.core);
-  }
 
   -- the run of a demo goes to its end
   pub demo_ends : (sessions : ℕ) → sessions ≤ 500 → (run_of (store_of []) (demo_commands sessions)).ending ≡ None
@@ -556,4 +532,4 @@ module _ (Fits : WorkerState → Type 0) (records credit : WorkerState → ℕ) 
       let all : (first_sessions sessions sessions ++ []) ≡ first_sessions sessions sessions = append-nil (first_sessions sessions sessions) in
       ends_first (command.Quiet switch.On) (first_sessions sessions sessions) 0 (8000 * sessions + 0) (quiet_leaves switch.On)
       (subst (λ (commands : List Command). EndsWithin commands (8000 * sessions + 0)) all (sessions_end sessions sessions [] 0 ends_none))
-      new_run (script_runnable (demo_text sessions) (demo_commands sessions) (demo_is_said sessions few)) none_calm none_sound (omega (arith, few))
+      new_run none_calm (omega (arith, few))

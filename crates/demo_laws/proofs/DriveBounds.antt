@@ -1,17 +1,17 @@
 -- A step of the actors of a core that runs leaves fewer, or the core has crashed.
-use Rattle.std.proofs.Common.{◌≡◌, ◌⊎◌, inl, inr, ◌<◌, ◌≤◌, ℕ, suc, ◌+◌, ◌-◌, ◌*◌, cond, Bool, true, false, not, ◌&&◌, ◌||◌, List, [], ◌∷◌, ◌++◌, length, Option, Some, None, IfSome, is_none, is_some, refl, sym, ap, ap₂, subst, ◌∙◌, arith}
+use Rattle.std.proofs.Common.{◌≡◌, ◌⊎◌, inl, inr, ◌<◌, ◌≤◌, ℕ, suc, ◌+◌, ◌-◌, ◌*◌, ◌==◌, cond, Bool, true, false, not, ◌&&◌, ◌||◌, List, [], ◌∷◌, ◌++◌, length, Option, Some, None, is_some, refl, sym, ap, ap₂, subst, ◌∙◌, arith}
 use Rattle.std.specs.Option.{option_map_or}
 use Rattle.std.proofs.lemmas.Bool.{cond_both, eq-eqb, eqb-false, false≢true, ne_eqb, or_parts, true≢false}
 use Rattle.rp_base.specs.declared.kinds.End.{End}
 use Rattle.rp_base.specs.declared.kinds.End.TheVariants as side
 use Rattle.rp_base.specs.declared.kinds.LifeState.{LifeState}
-use Rattle.rp_base.specs.declared.kinds.LifeState.TheVariants.{Offline, Running, Crashed, Attached, Detached}
+use Rattle.rp_base.specs.declared.kinds.LifeState.TheVariants.{Running, Crashed}
 use Rattle.addr_translate.specs.Maps.{Mapping}
 use Rattle.remote_core.specs.Workers.{WorkerState, after_take}
 use Rattle.remote_core.specs.Works.{after_work, memory_after, work_of}
 use Rattle.remote_core.specs.declared.workers.Work.{Work}
 use Rattle.remote_core.specs.declared.workers.Work.TheVariants as work
-use Rattle.proc_state.specs.Lives.{CoreLife, crash_as, is_up, line_of}
+use Rattle.proc_state.specs.Lives.{is_up}
 use Rattle.lane_model.specs.declared.calls.Outcome.{Outcome}
 use Rattle.lane_model.specs.declared.calls.Outcome.TheVariants as outcome
 use Rattle.lane_model.specs.declared.calls.Wish.{Wish}
@@ -27,38 +27,36 @@ use Rattle.lane_model.specs.Lanes.{has_call}
 use Rattle.lane_model.specs.Links.{Lanes, LinkState, caller_step, end_of, lanes_of, lanes_step, on_lanes, with_lanes}
 use Rattle.channel_bus.specs.Sides.{EndState, side_meaning}
 use Rattle.link_bench.specs.declared.benches.BegunCall.{BegunCall}
-use Rattle.link_bench.specs.declared.benches.Reach.TheVariants as reach
 use Rattle.core_actors.specs.Actors.{ActorsState}
-use Rattle.core_laws.specs.BenchMoves.{IsReachedBench, IsReachedCore}
+use Rattle.core_laws.specs.BenchMoves.{IsReachedBench}
+use Rattle.core_laws.specs.DriveParts.{beside_actor, beside_drive}
 use Rattle.link_bench.specs.Benches.{BenchState, BenchWalk, LinkRings, Walk, advance_walk, begun_call_of, bench_walk, call_steps, is_in_call, later_steps, link_in, on_lists, start_walk}
 use Rattle.link_bench.proofs.Lists.{call_lists, later_lists}
-use Rattle.crash_recover.specs.Cores.{CoreState, LoadState, IsKeptCore}
+use Rattle.crash_recover.specs.Cores.{CoreState, LoadState}
 use Rattle.core_actors.specs.ActorEnds.{message_of, taken_number, worker_after_end}
-use Rattle.core_actors.specs.ActorSteps.{first_or_take, host_at_step_as, host_is_idle, host_after_step, is_drained, is_empty, is_held_up, worker_after_step, begins_with_take}
-use Rattle.crash_recover.specs.Drives.{host_step, placed_map, DriveStep, actor_step, actor_to_step, core_with_report, drive_step, is_idle, is_idle_actor, record_run, record_step, step_with_report, with_turn_after, worker_call, worker_step}
-use Rattle.crash_recover.specs.KeptCores.{AreOwnUsed, IsKeptBench}
-use Rattle.crash_recover.proofs.DriveSteps.{acting_busy}
-use Rattle.core_laws.specs.PendingCalls.{HasNoneBegun, IsReadyBench, IsReadyCore}
+use Rattle.core_actors.specs.ActorSteps.{first_or_take, host_at_step_as, host_is_idle, host_after_step, is_drained, is_empty, worker_after_step, begins_with_take}
+use Rattle.crash_recover.specs.Drives.{DriveStep, actor_to_step, core_with_report, drive_step, host_step, is_idle, placed_map, run_by, step_with_report, with_turn_after, worker_call}
+use Rattle.core_actors.specs.PendingCalls.{AreOwnUsed, HasNoneBegun}
+use Rattle.crash_recover.specs.KeptCores.{IsKeptBench}
 use Rattle.demo_laws.proofs.ActorBounds.{HasMessageNow, HostLeft, LinkWithin, WorkerLeft, host_first_step, host_later, more_link, paid, worker_asks, worker_first_step, worker_later}
 use Rattle.demo_laws.proofs.CallCosts.{AreWorkerCalls, WorkerFits, call_cost, calls_cost, gives_in, one_give, one_send, one_take, sends_in, takes_in, worker_after}
 use Rattle.demo_laws.proofs.ActorCalls.{IsNoUnbind, TurnsOf}
 use Rattle.core_laws.proofs.CrashReclaims.{reached_sound}
 use Rattle.demo_laws.proofs.OwnCalls.{IsFree, IsOwnSend, IsOwnWork}
-use Rattle.core_laws.proofs.PendingCores.{linked}
-use Rattle.core_laws.proofs.PendingSteps.{one_call, one_later, reach_by}
+use Rattle.core_actors.proofs.PendingActors.{linked}
+use Rattle.core_actors.proofs.PendingSteps.{one_call, one_later, reach_by}
 use Rattle.std.proofs.Common.{◌≢◌, ⊎_elim}
 use Rattle.std.proofs.lemmas.Bool.{cases_lt}
-use Rattle.memory_pool.specs.declared.regions.Region.{Region}
 use Rattle.core_actors.specs.declared.actors.Actor.{Actor}
 use Rattle.core_actors.specs.declared.actors.Actor.TheVariants as actor
-use Rattle.core_actors.specs.declared.progress.Driven.TheVariants as driven
-use Rattle.crash_recover.specs.CoreCrashes.{after_report, first_report, report_as, report_of}
+use Rattle.core_actors.specs.declared.progress.Driven.{Driven}
+use Rattle.crash_recover.specs.CoreCrashes.{after_report, report_of}
 use Rattle.core_actors.specs.Actors.{other_actor}
 use Rattle.core_actors.specs.ActorSteps.{drive_of_work, has_calls, wishes_of_work, worker_is_idle}
-use Rattle.core_laws.proofs.CoreMoves.{core_driven as core_moved}
-use Rattle.core_laws.proofs.KeptCores.{core_driven}
+use Rattle.core_laws.proofs.CoreMoves.{StandsReady, link_reached, turned_stands}
+use Rattle.core_laws.proofs.DriveWalks.{HoldOfParts, drive_walk, may_now, may_own, of_link}
+use Rattle.run_laws.proofs.CoresReady.{IsSoundCore, may_drive, sound_cores}
 use Rattle.demo_laws.proofs.OwnCalls.{handed_so_far}
-use Rattle.core_laws.proofs.PendingDrives.{drive_ready}
 
 -- ---- whether an actor is in a call
 
@@ -166,21 +164,68 @@ not_none false false has silent = refl
 not_none false true has silent = absurd (false≢true has)
 not_none true empty has silent = absurd (true≢false silent)
 
-halts : (in_call halted waits held : Bool) → (not in_call && (halted || waits || held)) ≡ false → in_call ≡ false → halted ≡ false
-halts true halted waits held busy silent = absurd (true≢false silent)
-halts false true waits held busy silent = absurd (true≢false busy)
-halts false false waits held busy silent = refl
+halts : (in_call halted waits : Bool) → (not in_call && (halted || waits)) ≡ false → in_call ≡ false → halted ≡ false
+halts true halted waits busy silent = absurd (true≢false silent)
+halts false true waits busy silent = absurd (true≢false busy)
+halts false false waits busy silent = refl
 
-message_comes : (in_call halted takes drained held : Bool) → (not in_call && (halted || (takes && drained) || held)) ≡ false → in_call ≡ false → takes ≡ true → drained ≡ false
-message_comes true halted takes drained held busy silent taking = absurd (true≢false silent)
-message_comes false true takes drained held busy silent taking = absurd (true≢false busy)
-message_comes false false false drained held busy silent taking = absurd (false≢true taking)
-message_comes false false true true held busy silent taking = absurd (true≢false busy)
-message_comes false false true false held busy silent taking = refl
+message_waits : (in_call drained : Bool) (calls : List Wish) → (not in_call && (is_empty calls && drained)) ≡ false → calls ≡ [] → in_call ≡ false → drained ≡ false
+message_waits in_call drained calls busy none silent = sym (ap₂ (λ (calling : Bool) (calls : List Wish). not calling && (is_empty calls && drained)) silent none) ∙ busy
+
+message_comes : (in_call halted takes drained : Bool) → (not in_call && (halted || (takes && drained))) ≡ false → in_call ≡ false → takes ≡ true → drained ≡ false
+message_comes true halted takes drained busy silent taking = absurd (true≢false silent)
+message_comes false true takes drained busy silent taking = absurd (true≢false busy)
+message_comes false false false drained busy silent taking = absurd (false≢true taking)
+message_comes false false true drained busy silent taking = busy
 
 no_calls : (calls : List Wish) → not (is_empty calls) ≡ false → calls ≡ []
 no_calls [] none = refl
 no_calls (first ∷ later) none = absurd (true≢false (sym (ap not (ne_eqb (suc (length later)) 0 (λ is. absurd (omega (arith, is))))) ∙ none))
+
+-- ---- which part of a step it is
+
+-- beside a step of an actor stands whether it is one of the worker on the link, and beside no step nothing
+abbrev of_caller : Option BenchState → ℕ → Wish → Option Bool
+of_caller found caller wanted = Some (caller == 1)
+
+abbrev of_record : Driven → CoreState → Option Bool
+of_record came left = Some false
+
+-- a step is made, and one of the worker on the link where it has a call to make
+abbrev IsMade : CoreState → Option Bool → Type 0
+IsMade core beside = (beside ≢ None) × (beside ≡ Some true → has_calls core.bench core.actors ≡ true)
+
+-- whose turn is next is nothing to that
+has_turned : (actors : ActorsState) (next : Actor) (found : Option BenchState) → has_calls found (record actors { next = next }) ≡ has_calls found actors
+has_turned actors next None = refl
+has_turned actors next (Some bench) = refl
+
+step_made : (core : CoreState) → is_idle core ≡ false → IsMade core (beside_drive None of_caller of_record core)
+step_made core busy =
+    let who = actor_to_step core in
+    cond_both (is_idle core) None (beside_actor of_caller of_record who (with_turn_after who core)) (IsMade core) (λ idle. absurd (true≢false (sym idle ∙ busy))) (λ _. by who)
+  where
+    by : (who : Actor) → IsMade core (beside_actor of_caller of_record who (with_turn_after who core))
+    by actor.Host = (λ is. absurd (cc), λ is. absurd (cc))
+    by actor.Worker =
+        let same = has_turned core.actors (other_actor actor.Worker) core.bench in
+        cond_both (has_calls core.bench (with_turn_after actor.Worker core).actors) (Some true) (Some false) (IsMade core)
+        (λ has. (λ is. absurd (cc), λ _. sym same ∙ has)) (λ _. (λ is. absurd (cc), λ is. absurd (cc)))
+
+-- a report of a crash leaves a core that runs crashed
+crashes_in : (core : CoreState) (found : Option BenchState) → (after_report (record core { life = record core.life { state = Running }; bench = found })).life.state ≡ Crashed
+unfolding report_of
+crashes_in core None = refl
+crashes_in core (Some bench) = refl
+
+crashes : (core : CoreState) → core.life.state ≡ Running → (after_report core).life.state ≡ Crashed
+crashes core running =
+    subst (λ (state : LifeState). (after_report (record core { life = record core.life { state = state } })).life.state ≡ Crashed) (sym running) (crashes_in core core.bench)
+
+-- what is left on a link, or of a worker's records without one
+abbrev pub IsLeft : ℕ → ℕ → List Wish → Bool → List Wish → Option BenchState → ℕ → Type 0
+IsLeft left credits host_calls is_taking worker_calls None within = left ≤ within
+IsLeft left credits host_calls is_taking worker_calls (Some bench) within = LinkWithin left credits host_calls is_taking worker_calls (link_in bench) within
 
 -- ---- the program of a worker
 
@@ -203,8 +248,7 @@ module _ (Fits : WorkerState → Type 0) (records credit : WorkerState → ℕ) 
 
   -- what is left on the link of a core, or of a worker without one
   abbrev pub OnLink : ActorsState → Option BenchState → ℕ → Type 0
-  OnLink actors None within = records actors.worker ≤ within
-  OnLink actors (Some bench) within = LinkWithin (records actors.worker) (credit actors.worker) actors.host_calls actors.is_taking actors.worker_calls (link_in bench) within
+  OnLink actors found within = IsLeft (records actors.worker) (credit actors.worker) actors.host_calls actors.is_taking actors.worker_calls found within
 
   -- ---- the host actor
 
@@ -306,254 +350,202 @@ module _ (Fits : WorkerState → Type 0) (records credit : WorkerState → ℕ) 
               subst (λ (done : Outcome). WorkerStays (walk_over bench (record { link = with_lanes (link_in bench) side.Remote step.state; steps = 1; reach = reach_by done })))
               (sym left.0.1) (left.1, left.2, fits)
 
-  -- ---- a step of an actor of a core
-
-  -- a core that still runs, where so much is left
-  pub record Stays (core : CoreState) (within : ℕ) (after : CoreState) : Type 0 where
-    pub life : after.life ≡ core.life
-    pub load : LoadState
-    pub loaded : after.loaded ≡ Some load
-    pub program : IsProgram load.memory (placed_map core.regions load)
-    pub fits : Fits after.actors.worker
-    pub on : OnLink after.actors after.bench (within - 1)
-
-  pub record Came (core : CoreState) (within : ℕ) (after : CoreState) : Type 0 where
-    pub some : 1 ≤ within
-    pub regions : after.regions ≡ core.regions
-    pub came : (after.life.state ≡ Crashed) ⊎ Stays core within after
-
-  module _ (core : CoreState) (within : ℕ) (load : LoadState) (loaded : core.loaded ≡ Some load) (program : IsProgram load.memory (placed_map core.regions load)) (fits : Fits core.actors.worker)
-      (running : core.life.state ≡ Running) where
-    message_waits : (in_call drained held : Bool) (calls : List Wish) → (not in_call && ((is_empty calls && drained) || held)) ≡ false → calls ≡ [] → in_call ≡ false → drained ≡ false
-    message_waits in_call false held calls busy none silent = refl
-    message_waits in_call true held calls busy none silent = absurd (true≢false (sym (ap₂ (λ (a : Bool) (c : List Wish). not a && ((is_empty c && true) || held)) silent none) ∙ busy))
-
-    host_came : (found : Option BenchState) → host_is_idle found core.actors ≡ false → IfSome found IsReachedBench → IfSome found (IsKeptBench core.life) → IfSome found HasNoneBegun
-        → IfSome found (IsReadyBench core.actors) → OnLink core.actors found within → Came core within (host_step core found).core
-    host_came None busy reached kept begun ready on = absurd (true≢false busy)
-    host_came (Some bench) busy reached kept begun ready on =
-        let live = kept.live ∙ ap is_up running in
-        let sound = reached_sound (link_in bench) reached.link in
-        let free = free_takes 0 (link_in bench).era.inc on.host_now (link_in bench).to_remote.sender (link_in bench).to_host.receiver on.host.turns in
-        let left = host_walk core.actors bench within reached live kept.own begun on (is_in_call bench 0) refl on.host_now refl
-        (λ none silent.
-        let differ = eqb-false (length (link_in bench).to_host.lane.accepted) (length (link_in bench).to_host.lane.takers) (message_waits (is_in_call bench 0) (is_drained bench 0) (is_held_up bench 0 core.actors.host_calls) core.actors.host_calls busy none silent) in
-        let clear = free (sym (host_call core.actors bench within reached live kept.own begun on) ∙ silent) in
-        let handed = sound.to_host.lane.handed in
-        let took = on.host.took in
-        less_than _ _ _ handed differ (took ∙ ap (λ (n : ℕ). on.host_took + n) clear)) in
-        record {
-          some = left.1;
-          regions = refl;
-          came = inr (record { life = refl; load = load; loaded = loaded; program = program; fits = subst Fits (sym left.2) fits; on = left.0 });
-        }
-
-    worker_call_came : (found : Option BenchState) → has_calls found core.actors ≡ true → worker_is_idle found core.actors ≡ false → IfSome found IsReachedBench → IfSome found (IsKeptBench core.life)
-        → IfSome found HasNoneBegun → IfSome found (IsReadyBench core.actors) → OnLink core.actors found within → Came core within (worker_call core found).core
-    worker_call_came None has busy reached kept begun ready on = absurd (false≢true has)
-    worker_call_came (Some bench) has busy reached kept begun ready on =
-        let live = kept.live ∙ ap is_up running in
-        let sound = reached_sound (link_in bench) reached.link in
-        let free = free_takes 1 (link_in bench).era.inc on.worker_now (link_in bench).to_host.sender (link_in bench).to_remote.receiver on.worker.turns in
-        let left = worker_walk core.actors bench within reached live kept.own begun on fits program.took (is_in_call bench 1) refl on.worker_now refl
-        (λ silent. not_none (is_in_call bench 1) (is_empty core.actors.worker_calls) has silent)
-        (λ silent takes.
-        let differ = eqb-false (length (link_in bench).to_remote.lane.accepted) (length (link_in bench).to_remote.lane.takers)
-        (message_comes (is_in_call bench 1) core.actors.worker.is_halted (begins_with_take core.actors.worker_calls) (is_drained bench 1) (is_held_up bench 1 core.actors.worker_calls) busy silent takes) in
-        let clear = free (sym (worker_in_call core.actors bench within reached live kept.own begun on fits program.took) ∙ silent) in
-        less_than _ _ _ sound.to_remote.lane.handed differ (on.worker.took ∙ ap (λ (n : ℕ). on.worker_took + n) clear)) in
-        record {
-          some = left.1;
-          regions = refl;
-          came = inr (record { life = refl; load = load; loaded = loaded; program = program; fits = left.2; on = left.0 });
-        }
-
-    -- ---- a record
-
-    abbrev AfterWork : Work → CoreState
-    AfterWork done = record core {
-      loaded = Some (record load { memory = memory_after load.memory (placed_map core.regions load) (is_some core.bench) core.actors.worker });
-      actors = record core.actors {
-        worker = after_work load.memory (placed_map core.regions load) (is_some core.bench) core.actors.worker;
-        worker_calls = core.actors.worker_calls ++ wishes_of_work done;
-      };
-    }
-
-    same_program : memory_after load.memory (placed_map core.regions load) (is_some core.bench) core.actors.worker ≡ load.memory
-        → IsProgram (memory_after load.memory (placed_map core.regions load) (is_some core.bench) core.actors.worker) (placed_map core.regions load)
-    same_program same = subst (λ (memory : List ℕ). IsProgram memory (placed_map core.regions load)) (sym same) program
-
-    crashed_with : (found : Option BenchState) (left : CoreState) (life : CoreLife) → life.state ≡ Crashed
-        → ((first_report true life left found).core.life.state ≡ Crashed) × ((first_report true life left found).core.regions ≡ left.regions)
-    crashed_with None left life is = (is, refl)
-    crashed_with (Some bench) left life is = (is, refl)
-
-    crashed_in : (state : LifeState) (left : CoreState) → state ≡ Running
-        → ((report_as true (crash_as (line_of state).crash left.life).life (crash_as (line_of state).crash left.life).answer left).core.life.state ≡ Crashed)
-        × ((report_as true (crash_as (line_of state).crash left.life).life (crash_as (line_of state).crash left.life).answer left).core.regions ≡ left.regions)
-    crashed_in Offline left runs = absurd (false≢true (ap is_up runs))
-    crashed_in Crashed left runs = absurd (false≢true (ap is_up runs))
-    crashed_in Detached left runs = absurd (false≢true (ap is_up runs))
-    crashed_in Attached left runs = absurd (cc)
-    crashed_in Running left runs = crashed_with left.bench left (record left.life { state = Crashed }) refl
-
-    crashed : (left : CoreState) → left.life.state ≡ Running → ((after_report left).life.state ≡ Crashed) × ((after_report left).regions ≡ left.regions)
-    unfolding report_of
-    crashed left runs = crashed_in left.life.state left runs
-
-    asks_on : (found : Option BenchState) (asked : List Wish) → has_calls found core.actors ≡ false → IfSome found (IsKeptBench core.life) → IfSome found HasNoneBegun → IfSome found IsReachedBench → OnLink core.actors found within
-        → AreWorkerCalls asked → gives_in asked ≡ 0
-        → let after = after_work load.memory (placed_map core.regions load) (is_some core.bench) core.actors.worker in
-        records after + calls_cost asked + 17 * sends_in asked + 1 ≤ records core.actors.worker → credit after + sends_in asked ≤ credit core.actors.worker + takes_in asked
-        → OnLink (record core.actors { worker = after; worker_calls = core.actors.worker_calls ++ asked }) found (within - 1) × (1 ≤ within)
-    asks_on None asked none kept begun reached on are no_gives less flows = (omega (arith, less, on), omega (arith, less, on))
-    asks_on (Some bench) asked none kept begun reached on are no_gives less flows =
-        let live = kept.live ∙ ap is_up running in
-        let parts = or_parts (is_in_call bench 1) _ none in
-        let now = none_now on.worker_now (sym (worker_in_call core.actors bench within reached live kept.own begun on fits program.took) ∙ parts.0) in
-        worker_asks (records core.actors.worker) (credit core.actors.worker) core.actors.host_calls core.actors.is_taking core.actors.worker_calls (link_in bench) within (reached_sound (link_in bench) reached.link) live on
-        _ _ asked now (no_calls core.actors.worker_calls parts.1) are no_gives less flows
-
-    some_left : (found : Option BenchState) → 1 ≤ records core.actors.worker → IfSome found (IsKeptBench core.life) → IfSome found IsReachedBench → OnLink core.actors found within → 1 ≤ within
-    some_left None some kept reached on = omega (arith, some, on)
-    some_left (Some bench) some kept reached on =
-        let pays = paid (records core.actors.worker) (credit core.actors.worker) core.actors.host_calls core.actors.is_taking core.actors.worker_calls (link_in bench) within (reached_sound (link_in bench) reached.link) (kept.live ∙ ap is_up running) on in
-        omega (arith, some, pays, on.cost)
-
-    module _ (none : has_calls core.bench core.actors ≡ false) (kept : IfSome core.bench (IsKeptBench core.life)) (begun : IfSome core.bench HasNoneBegun) (reached : IfSome core.bench IsReachedBench)
-        (on : OnLink core.actors core.bench within) where
-      -- the core has crashed with the record
-      down : (left : CoreState) → left.life ≡ core.life → left.regions ≡ core.regions → 1 ≤ records core.actors.worker → Came core within (after_report left)
-      down left life regions some =
-          let state = ap (λ (l : CoreLife). l.state) life in
-          let gone = crashed left (state ∙ running) in
-          record { some = some_left core.bench some kept reached on; regions = gone.1 ∙ regions; came = inl gone.0 }
-
-      record_by : (done : Work) → 1 ≤ records core.actors.worker
-          → memory_after load.memory (placed_map core.regions load) (is_some core.bench) core.actors.worker ≡ load.memory
-          → WorkGoes done core.actors.worker (after_work load.memory (placed_map core.regions load) (is_some core.bench) core.actors.worker)
-          → Came core within (core_with_report (drive_of_work done) (AfterWork done))
-      record_by (work.Ask wanted) some same goes =
-          let left = asks_on core.bench (wanted ∷ []) none kept begun reached on (refl, goes.1) (omega (arith, goes.2)) (omega (arith, goes.3)) (omega (arith, goes.4)) in
-          record {
-            some = left.1;
-            regions = refl;
-            came = inr (record {
-              life = refl;
-              load = record load { memory = memory_after load.memory (placed_map core.regions load) (is_some core.bench) core.actors.worker };
-              loaded = refl;
-              program = same_program same;
-              fits = goes.0;
-              on = left.0;
-            });
-          }
-      record_by work.Nothing some same goes =
-          let left = asks_on core.bench [] none kept begun reached on tt refl (omega (arith, goes.1)) (omega (arith, goes.2)) in
-          record {
-            some = left.1;
-            regions = refl;
-            came = inr (record {
-              life = refl;
-              load = record load { memory = memory_after load.memory (placed_map core.regions load) (is_some core.bench) core.actors.worker };
-              loaded = refl;
-              program = same_program same;
-              fits = goes.0;
-              on = left.0;
-            });
-          }
-      record_by work.Halted some same goes =
-          let left = asks_on core.bench [] none kept begun reached on tt refl (omega (arith, goes.1)) (omega (arith, goes.2)) in
-          record {
-            some = left.1;
-            regions = refl;
-            came = inr (record {
-              life = refl;
-              load = record load { memory = memory_after load.memory (placed_map core.regions load) (is_some core.bench) core.actors.worker };
-              loaded = refl;
-              program = same_program same;
-              fits = goes.0;
-              on = left.0;
-            });
-          }
-      record_by (work.Crash kind) some same goes = down (AfterWork (work.Crash kind)) refl refl some
-      record_by (work.Fault fault) some same goes = down (AfterWork (work.Fault fault)) refl refl some
-
-      record_came : core.actors.worker.is_halted ≡ false → Came core within (record_step core).core
-      record_came going =
-          let runs = program.runs (is_some core.bench) core.actors.worker fits going in
-          subst (λ (found : Option LoadState). Came core within (step_with_report (record_run core found)).core) (sym loaded)
-          (record_by (work_of load.memory (placed_map core.regions load) (is_some core.bench) core.actors.worker) runs.0 runs.1 runs.2)
-
-    going_on : (found : Option BenchState) → has_calls found core.actors ≡ false → worker_is_idle found core.actors ≡ false → core.actors.worker.is_halted ≡ false
-    going_on None none busy = busy
-    going_on (Some bench) none busy =
-        let parts = or_parts (is_in_call bench 1) _ none in
-        halts (is_in_call bench 1) core.actors.worker.is_halted (begins_with_take core.actors.worker_calls && is_drained bench 1) (is_held_up bench 1 core.actors.worker_calls) busy parts.0
-
-    worker_came : worker_is_idle core.bench core.actors ≡ false → IfSome core.bench IsReachedBench → IfSome core.bench (IsKeptBench core.life)
-        → IfSome core.bench HasNoneBegun → IfSome core.bench (IsReadyBench core.actors) → OnLink core.actors core.bench within → Came core within (worker_step core).core
-    worker_came busy reached kept begun ready on =
-        cond_both (has_calls core.bench core.actors) (worker_call core core.bench) (record_step core) (λ (step : DriveStep). Came core within step.core)
-        (λ has. worker_call_came core.bench has busy reached kept begun ready on)
-        (λ none. record_came none kept begun reached on (going_on core.bench none busy))
-
-    actor_came : (who : Actor) → is_idle_actor core who ≡ false → IfSome core.bench IsReachedBench → IfSome core.bench (IsKeptBench core.life) → IfSome core.bench HasNoneBegun
-        → IfSome core.bench (IsReadyBench core.actors) → OnLink core.actors core.bench within → Came core within (actor_step who core).core
-    actor_came actor.Host busy reached kept begun ready on = host_came core.bench busy reached kept begun ready on
-    actor_came actor.Worker busy reached kept begun ready on = worker_came (or_parts (is_none core.loaded) (worker_is_idle core.bench core.actors) busy).1 reached kept begun ready on
-
-  -- a core that runs a program, and whose actors make at most so many steps more
-  pub record IsWithin (core : CoreState) (within : ℕ) : Type 0 where
-    pub load : LoadState
-    pub loaded : core.loaded ≡ Some load
-    pub program : IsProgram load.memory (placed_map core.regions load)
-    pub fits : Fits core.actors.worker
-    pub reached : IsReachedCore core
-    pub kept : IsKeptCore core
-    pub ready : IsReadyCore core
-    pub on : OnLink core.actors core.bench within
-
   -- more steps are enough too
   pub more_on : (actors : ActorsState) (found : Option BenchState) (within most : ℕ) → within ≤ most → OnLink actors found within → OnLink actors found most
   more_on actors None within most less on = omega (arith, less, on)
   more_on actors (Some bench) within most less on = more_link (records actors.worker) (credit actors.worker) actors.host_calls actors.is_taking actors.worker_calls (link_in bench) within most less on
 
-  turn_on : (actors : ActorsState) (who : Actor) (found : Option BenchState) (within : ℕ) → OnLink actors found within → OnLink (record actors { next = who }) found within
-  turn_on actors who None within on = on
-  turn_on actors who (Some bench) within on = on
+  -- ---- a step of the actors of a core
 
-  turn_ready : (actors : ActorsState) (who : Actor) (found : Option BenchState) → IfSome found (IsReadyBench actors) → IfSome found (IsReadyBench (record actors { next = who }))
-  turn_ready actors who None ready = tt
-  turn_ready actors who (Some bench) ready = record { host = ready.host; worker = ready.worker }
+  -- a core with a program, of whose actors' steps at most so many are left
+  pub record Goes (core : CoreState) (within : ℕ) : Type 0 where
+    pub load : LoadState
+    pub loaded : core.loaded ≡ Some load
+    pub program : IsProgram load.memory (placed_map core.regions load)
+    pub fits : Fits core.actors.worker
+    pub on : OnLink core.actors core.bench within
 
-  -- a step of the actors
-  pub record Drove (core : CoreState) (within : ℕ) (after : CoreState) : Type 0 where
+  -- a step was left, and the core has crashed with it, or goes on with one fewer
+  record Came (within : ℕ) (after : CoreState) : Type 0 where
     pub some : 1 ≤ within
-    pub regions : after.regions ≡ core.regions
+    pub came : (after.life.state ≡ Crashed) ⊎ ((after.life.state ≡ Running) × Goes after (within - 1))
+
+  module _ (start : CoreState) (within : ℕ) where
+    -- a core that runs so, and whose worker makes a call where that of the first one does
+    record Stands (core : CoreState) : Type 0 where
+      pub running : core.life.state ≡ Running
+      pub goes : Goes core within
+      pub ready : StandsReady core
+      pub calls : has_calls core.bench core.actors ≡ has_calls start.bench start.actors
+
+    module _ (core : CoreState) (is : Stands core) where
+      on_link : (found : Option BenchState) → core.bench ≡ found → OnLink core.actors found within
+      on_link found there = subst (λ (now : Option BenchState). OnLink core.actors now within) there is.goes.on
+
+      -- ---- on the link
+
+      module _ (bench : BenchState) (there : core.bench ≡ Some bench) where
+        reached : IsReachedBench bench
+        reached = link_reached core bench there is.ready
+
+        live : (link_in bench).era.is_live ≡ true
+        live = (of_link (IsKeptBench core.life) core bench there is.ready.may.kept).live ∙ is.ready.may.up
+
+        own : AreOwnUsed (link_in bench).callers
+        own = may_own core bench there is.ready.may
+
+        begun : HasNoneBegun bench
+        begun = (may_now core bench there is.ready.may).begun
+
+        on : OnLink core.actors (Some bench) within
+        on = on_link (Some bench) there
+
+        host_comes : host_is_idle (Some bench) core.actors ≡ false → Came within (host_step core (Some bench)).core
+        host_comes busy =
+            let sound = reached_sound (link_in bench) reached.link in
+            let left = host_walk core.actors bench within reached live own begun on (is_in_call bench 0) refl on.host_now refl
+            (λ none silent.
+            let differ = eqb-false (length (link_in bench).to_host.lane.accepted) (length (link_in bench).to_host.lane.takers) (message_waits (is_in_call bench 0) (is_drained bench 0) core.actors.host_calls busy none silent) in
+            let clear = free_takes 0 (link_in bench).era.inc on.host_now (link_in bench).to_remote.sender (link_in bench).to_host.receiver on.host.turns (sym (host_call core.actors bench within reached live own begun on) ∙ silent) in
+            less_than _ _ _ sound.to_host.lane.handed differ (on.host.took ∙ ap (λ (n : ℕ). on.host_took + n) clear)) in
+            record {
+              some = left.1;
+              came = inr (is.running, record { load = is.goes.load; loaded = is.goes.loaded; program = is.goes.program; fits = subst Fits (sym left.2) is.goes.fits; on = left.0 });
+            }
+
+        call_comes : worker_is_idle (Some bench) core.actors ≡ false → has_calls start.bench start.actors ≡ true → Came within (worker_call core (Some bench)).core
+        call_comes busy calls =
+            let has = subst (λ (found : Option BenchState). has_calls found core.actors ≡ true) there (is.calls ∙ calls) in
+            let took = is.goes.program.took in
+            let sound = reached_sound (link_in bench) reached.link in
+            let left = worker_walk core.actors bench within reached live own begun on is.goes.fits took (is_in_call bench 1) refl on.worker_now refl
+            (λ silent. not_none (is_in_call bench 1) (is_empty core.actors.worker_calls) has silent)
+            (λ silent takes.
+            let differ = eqb-false (length (link_in bench).to_remote.lane.accepted) (length (link_in bench).to_remote.lane.takers)
+            (message_comes (is_in_call bench 1) core.actors.worker.is_halted (begins_with_take core.actors.worker_calls) (is_drained bench 1) busy silent takes) in
+            let clear = free_takes 1 (link_in bench).era.inc on.worker_now (link_in bench).to_host.sender (link_in bench).to_remote.receiver on.worker.turns
+            (sym (worker_in_call core.actors bench within reached live own begun on is.goes.fits took) ∙ silent) in
+            less_than _ _ _ sound.to_remote.lane.handed differ (on.worker.took ∙ ap (λ (n : ℕ). on.worker_took + n) clear)) in
+            record {
+              some = left.1;
+              came = inr (is.running, record { load = is.goes.load; loaded = is.goes.loaded; program = is.goes.program; fits = left.2; on = left.0 });
+            }
+
+      -- ---- a record
+
+      module _ (load : LoadState) (there : core.loaded ≡ Some load) (silent : has_calls core.bench core.actors ≡ false) where
+        abbrev map : Mapping
+        map = placed_map core.regions load
+
+        abbrev after : WorkerState
+        after = after_work load.memory map (is_some core.bench) core.actors.worker
+
+        abbrev memory : List ℕ
+        memory = memory_after load.memory map (is_some core.bench) core.actors.worker
+
+        -- the core whose worker asks for these calls
+        abbrev Worked : List Wish → CoreState
+        Worked asked = record core {
+          loaded = Some (record load { memory = memory });
+          actors = record core.actors { worker = after; worker_calls = core.actors.worker_calls ++ asked };
+        }
+
+        program : IsProgram load.memory map
+        program =
+            let found : Some is.goes.load ≡ Some load = sym is.goes.loaded ∙ there in
+            let same : is.goes.load ≡ load = cc in
+            subst (λ (now : LoadState). IsProgram now.memory (placed_map core.regions now)) same is.goes.program
+
+        going : (found : Option BenchState) → has_calls found core.actors ≡ false → worker_is_idle found core.actors ≡ false → core.actors.worker.is_halted ≡ false
+        going None none busy = busy
+        going (Some bench) none busy =
+            let parts = or_parts (is_in_call bench 1) _ none in
+            halts (is_in_call bench 1) core.actors.worker.is_halted (begins_with_take core.actors.worker_calls && is_drained bench 1) busy parts.0
+
+        some_left : (found : Option BenchState) → core.bench ≡ found → 1 ≤ records core.actors.worker → 1 ≤ within
+        some_left None there some = omega (arith, some, on_link None there)
+        some_left (Some bench) there some =
+            let pays = paid (records core.actors.worker) (credit core.actors.worker) core.actors.host_calls core.actors.is_taking core.actors.worker_calls (link_in bench) within (reached_sound (link_in bench) (reached bench there).link) (live bench there) (on bench there) in
+            omega (arith, some, pays, (on bench there).cost)
+
+        asks_on : (found : Option BenchState) → core.bench ≡ found → has_calls found core.actors ≡ false → (asked : List Wish) → AreWorkerCalls asked → gives_in asked ≡ 0
+            → records after + calls_cost asked + 17 * sends_in asked + 1 ≤ records core.actors.worker → credit after + sends_in asked ≤ credit core.actors.worker + takes_in asked
+            → OnLink (Worked asked).actors found (within - 1)
+        asks_on None there none asked are no_gives less flows = omega (arith, less, on_link None there)
+        asks_on (Some bench) there none asked are no_gives less flows =
+            let parts = or_parts (is_in_call bench 1) _ none in
+            let now = none_now (on bench there).worker_now
+            (sym (worker_in_call core.actors bench within (reached bench there) (live bench there) (own bench there) (begun bench there) (on bench there) is.goes.fits program.took) ∙ parts.0) in
+            (worker_asks (records core.actors.worker) (credit core.actors.worker) core.actors.host_calls core.actors.is_taking core.actors.worker_calls (link_in bench) within (reached_sound (link_in bench) (reached bench there).link)
+            (live bench there) (on bench there) _ _ asked now (no_calls core.actors.worker_calls parts.1) are no_gives less flows).0
+
+        module _ (some : 1 ≤ records core.actors.worker) (same : memory ≡ load.memory) where
+          asks : (asked : List Wish) → Fits after → AreWorkerCalls asked → gives_in asked ≡ 0 → records after + calls_cost asked + 17 * sends_in asked + 1 ≤ records core.actors.worker
+              → credit after + sends_in asked ≤ credit core.actors.worker + takes_in asked → Came within (Worked asked)
+          asks asked fits are no_gives less flows = record {
+            some = some_left core.bench refl some;
+            came = inr (
+              is.running,
+              record {
+                load = record load { memory = memory };
+                loaded = refl;
+                program = subst (λ (now : List ℕ). IsProgram now map) (sym same) program;
+                fits = fits;
+                on = asks_on core.bench refl silent asked are no_gives less flows;
+              },
+            );
+          }
+
+          down : Came within (after_report (Worked []))
+          down = record { some = some_left core.bench refl some; came = inl (crashes (Worked []) is.running) }
+
+          record_comes : (done : Work) → WorkGoes done core.actors.worker after → Came within (core_with_report (drive_of_work done) (Worked (wishes_of_work done)))
+          record_comes (work.Ask wanted) goes = asks (wanted ∷ []) goes.0 (refl, goes.1) (omega (arith, goes.2)) (omega (arith, goes.3)) (omega (arith, goes.4))
+          record_comes work.Nothing goes = asks [] goes.0 tt refl (omega (arith, goes.1)) (omega (arith, goes.2))
+          record_comes work.Halted goes = asks [] goes.0 tt refl (omega (arith, goes.1)) (omega (arith, goes.2))
+          record_comes (work.Crash kind) goes = down
+          record_comes (work.Fault fault) goes = down
+
+        work_comes : worker_is_idle core.bench core.actors ≡ false → Came within (step_with_report (run_by core load map)).core
+        work_comes busy =
+            let runs = program.runs (is_some core.bench) core.actors.worker is.goes.fits (going core.bench silent busy) in
+            record_comes runs.0 runs.1 (work_of load.memory map (is_some core.bench) core.actors.worker) runs.2
+
+    -- ---- the step
+
+    abbrev Leaves : DriveStep → Option Bool → Type 0
+    Leaves step beside = IsMade start beside → Came within step.core
+
+    parts : HoldOfParts None of_caller of_record Stands Leaves
+    parts = record {
+      rest = λ core is made. absurd (made.0 refl);
+      turn = λ who core is. record {
+        running = is.running;
+        goes = record { load = is.goes.load; loaded = is.goes.loaded; program = is.goes.program; fits = is.goes.fits; on = is.goes.on };
+        ready = turned_stands who core is.ready;
+        calls = has_turned core.actors (other_actor who) core.bench ∙ is.calls;
+      };
+      host = λ core bench there busy is made. host_comes core is bench there busy;
+      call = λ core bench there busy is made. call_comes core is bench there busy (made.1 refl);
+      work = λ core load there silent busy is made. work_comes core is load there silent busy;
+    }
+
+  -- a core that runs a program, and whose actors make at most so many steps more
+  pub record IsWithin (core : CoreState) (within : ℕ) : Type 0 where
+    pub goes : Goes core within
+    pub sound : IsSoundCore core
+
+  -- the same behind a step, of which one was left, unless the core has crashed with it
+  pub record Drove (within : ℕ) (after : CoreState) : Type 0 where
+    pub some : 1 ≤ within
     pub came : (after.life.state ≡ Crashed) ⊎ ((after.life.state ≡ Running) × IsWithin after (within - 1))
 
-  pub drive_within : (core : CoreState) (within : ℕ) → IsWithin core within → core.life.state ≡ Running → is_idle core ≡ false → Drove core within (drive_step core).core
+  pub drive_within : (core : CoreState) (within : ℕ) → IsWithin core within → core.life.state ≡ Running → is_idle core ≡ false → Drove within (drive_step core).core
   drive_within core within is running busy =
-      let who = actor_to_step core in
-      let turned = with_turn_after who core in
-      let moved = actor_came turned within is.load is.loaded is.program is.fits running who (acting_busy core busy) is.reached.bench is.kept is.ready.begun
-      (turn_ready core.actors (other_actor who) core.bench (is.ready.calls (ap is_up running))) (turn_on core.actors (other_actor who) core.bench within is.on) in
-      let stepped : drive_step core ≡ actor_step who turned = ap (λ (b : Bool). cond b (record { core = core; driven = driven.Idle }) (actor_step who turned)) busy in
-      let next = sym (ap (λ (step : DriveStep). step.core) stepped) in
-      subst (Drove core within) next (record {
-        some = moved.some;
-        regions = moved.regions;
-        came = ⊎_elim (λ down. inl down) (λ (stays : Stays turned within (actor_step who turned).core). inr (
-          ap (λ (l : CoreLife). l.state) stays.life ∙ running,
-          record {
-            load = stays.load;
-            loaded = stays.loaded;
-            program = subst (λ (regions : List Region). IsProgram stays.load.memory (placed_map regions stays.load)) (sym moved.regions) stays.program;
-            fits = stays.fits;
-            reached = subst IsReachedCore (sym next) (core_moved core is.reached);
-            kept = subst IsKeptCore (sym next) (core_driven core is.kept);
-            ready = subst IsReadyCore (sym next) (drive_ready core is.reached is.kept is.ready);
-            on = stays.on;
-          },
-        )) moved.came;
-      })
+      let up = ap is_up running in
+      let step = drive_walk None of_caller of_record (Stands core within) (Leaves core within) (parts core within) core
+      (record { running = running; goes = is.goes; ready = record { may = may_drive core up is.sound; reached = is.sound.reached }; calls = refl }) (step_made core busy) in
+      record {
+        some = step.some;
+        came = ⊎_elim (λ down. inl down) (λ on. inr (on.0, record { goes = on.1; sound = sound_cores.drive core up is.sound })) step.came;
+      }

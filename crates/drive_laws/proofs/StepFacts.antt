@@ -1,21 +1,19 @@
 -- What a step of an actor leaves of both.
-use Rattle.std.proofs.Common.{◌≡◌, ℕ, Bool, true, false, cond, List, Option, Some, None, is_some, refl, sym, subst}
-use Rattle.rp_base.specs.declared.kinds.LifeState.{LifeState}
-use Rattle.rp_base.specs.declared.kinds.LifeState.TheVariants.{Offline, Running, Crashed, Attached, Detached}
+use Rattle.std.proofs.Common.{◌≡◌, ℕ, Bool, true, false, cond, List, Option, Some, None, is_some, refl, sym, subst, ◌∙◌}
 use Rattle.remote_core.specs.Workers.{WorkerState}
 use Rattle.remote_core.specs.Works.{work_of}
 use Rattle.link_bench.specs.declared.benches.Reach.{Reach}
 use Rattle.link_bench.specs.declared.benches.Reach.TheVariants as reach
 use Rattle.link_bench.specs.Benches.{BenchState, is_in_call}
-use Rattle.core_actors.specs.declared.progress.Driven.{Driven}
-use Rattle.core_actors.specs.declared.progress.Driven.TheVariants as driven
 use Rattle.core_actors.specs.Actors.{ActorsState}
-use Rattle.crash_recover.specs.CoreCrashes.{after_report, report_of}
+use Rattle.crash_recover.specs.CoreCrashes.{after_report}
 use Rattle.crash_recover.specs.Cores.{CoreState, LoadState}
 use Rattle.rpmsg_header.specs.Headers.{is_whole, source_of}
 use Rattle.core_actors.specs.ActorEnds.{end_answer, gives_of, is_tried_again, message_of, sends_of, taken_number, worker_after_end}
 use Rattle.core_actors.specs.ActorSteps.{drive_of_work, first_or_take, has_calls, host_after_step, host_at_step_as, is_empty, link_step, wishes_of_work, worker_after_step}
-use Rattle.crash_recover.specs.Drives.{after_record, core_with_report, host_step, placed_map, record_run, record_step, run_by, step_with_report, worker_call, worker_step}
+use Rattle.crash_recover.specs.Drives.{after_record, host_step, placed_map, record_run, record_step, run_by, step_with_report, worker_call, worker_step}
+use Rattle.core_laws.proofs.DriveWalks.{reported}
+use Rattle.core_laws.proofs.Outcomes.{report_left}
 use Rattle.drive_laws.specs.Places.{StaysAt}
 use Rattle.drive_laws.specs.Queues.{IsQueued, IsServed, Queued}
 use Rattle.drive_laws.proofs.QueueFacts.{more_behind, all_stay, host_queue, worker_queue}
@@ -59,9 +57,9 @@ pub record WorkerStep (before after : ActorsState) : Type 0 where
   pub calls : IsServed before.worker_calls after.worker_calls
 
 -- the same of a step on the link, which leaves the worker where it stands
-record CallStep (before after : ActorsState) : Type 0 where
-  step : WorkerStep before after
-  stays : StaysAt before.worker after.worker
+pub record CallStep (before after : ActorsState) : Type 0 where
+  pub step : WorkerStep before after
+  pub stays : StaysAt before.worker after.worker
 
 itself : (worker : WorkerState) → StaysAt worker worker
 itself worker = record { entry = refl; place = refl; turns = refl; halted = refl }
@@ -84,35 +82,21 @@ worker_reach actors bench (reach.Ended end) = record {
 worker_reach actors bench reach.Limit =
     record { step = record { next = refl; host_calls = refl; calls = Queued (all_stay 1 actors.worker_calls) }; stays = itself actors.worker }
 
-call_steps : (core : CoreState) (found : Option BenchState) → CallStep core.actors (worker_call core found).core.actors
+pub call_steps : (core : CoreState) (found : Option BenchState) → CallStep core.actors (worker_call core found).core.actors
 call_steps core None = record { step = record { next = refl; host_calls = refl; calls = Queued (all_stay 1 core.actors.worker_calls) }; stays = itself core.actors.worker }
 call_steps core (Some bench) = let walk = link_step bench 1 (first_or_take core.actors.worker_calls) in worker_reach core.actors walk.bench walk.reach
 
 -- a report of a crash leaves the actors
-report_keeps : (core : CoreState) (state : LifeState) (found : Option BenchState)
-    → (after_report (record core { life = record core.life { state = state }; bench = found })).actors ≡ core.actors
-unfolding report_of
-report_keeps core Offline found = refl
-report_keeps core Running None = refl
-report_keeps core Running (Some bench) = refl
-report_keeps core Crashed found = refl
-report_keeps core Attached None = refl
-report_keeps core Attached (Some bench) = refl
-report_keeps core Detached found = refl
-
-pub reported_keeps : (step : Driven) (core : CoreState) → (core_with_report step core).actors ≡ core.actors
-reported_keeps driven.Idle core = refl
-reported_keeps driven.Stepped core = refl
-reported_keeps (driven.Ended caller end) core = refl
-reported_keeps (driven.Worker fault closed) core = report_keeps core core.life.state core.bench
-reported_keeps (driven.Crashed kind closed) core = report_keeps core core.life.state core.bench
+pub report_keeps : (core : CoreState) → (after_report core).actors ≡ core.actors
+report_keeps core = report_left (λ (left : CoreState). left.actors ≡ core.actors) true core refl (λ life stops. refl)
 
 -- the actors after a record, whatever was reported
 pub record_actors : (core : CoreState) (load : LoadState) → let map = placed_map core.regions load in
     (step_with_report (run_by core load map)).core.actors ≡ (after_record core load map).actors
 record_actors core load =
     let map = placed_map core.regions load in
-    reported_keeps (drive_of_work (work_of load.memory map (is_some core.bench) core.actors.worker)) (after_record core load map)
+    let left = after_record core load map in
+    reported (λ (now : CoreState). now.actors ≡ left.actors) (λ now same. report_keeps now ∙ same) (drive_of_work (work_of load.memory map (is_some core.bench) core.actors.worker)) left refl
 
 record_steps : (core : CoreState) (given : Option LoadState) → WorkerStep core.actors (step_with_report (record_run core given)).core.actors
 record_steps core None = record { next = refl; host_calls = refl; calls = Queued (all_stay 1 core.actors.worker_calls) }

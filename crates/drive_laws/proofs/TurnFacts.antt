@@ -1,6 +1,6 @@
 -- Who makes a step of a drive, and whose turn is next.
-use Rattle.std.proofs.Common.{◌≡◌, ◌⊎◌, inl, inr, ℕ, ◌&&◌, ◌||◌, not, suc, zero, Bool, true, false, cond, List, ◌∷◌, length, Option, Some, None, is_none, is_some, refl, ap, sym, ◌∙◌, subst, arith}
-use Rattle.std.proofs.lemmas.Bool.{ne_eqb, or_parts}
+use Rattle.std.proofs.Common.{◌≡◌, ◌⊎◌, inl, inr, ℕ, ◌&&◌, ◌||◌, not, suc, zero, Bool, true, false, cond, List, ◌∷◌, length, Option, Some, None, is_some, refl, ap, sym, ◌∙◌, subst, arith}
+use Rattle.std.proofs.lemmas.Bool.{cond_both, false≢true, ne_eqb}
 use Rattle.rp_base.specs.declared.kinds.End.{End}
 use Rattle.rp_base.specs.declared.kinds.End.TheVariants as side
 use Rattle.lane_model.specs.declared.calls.CallEnd.{CallEnd}
@@ -17,15 +17,16 @@ use Rattle.core_actors.specs.declared.actors.Actor.TheVariants as actor
 use Rattle.core_actors.specs.declared.progress.Driven.{Driven}
 use Rattle.core_actors.specs.declared.progress.Driven.TheVariants as driven
 use Rattle.core_actors.specs.Actors.{ActorsState, other_actor}
-use Rattle.crash_recover.specs.Cores.{CoreState, LoadState}
+use Rattle.crash_recover.specs.Cores.{CoreState}
 use Rattle.core_actors.specs.ActorEnds.{actors_after_end, actors_at_end, end_answer, message_of, sends_of}
-use Rattle.core_actors.specs.ActorSteps.{drive_of_reach, drive_of_work, first_or_take, has_calls, host_is_idle, is_empty, link_step, worker_is_idle}
-use Rattle.crash_recover.specs.Drives.{DriveStep, actor_to_step, after_record, drive_step, driven_with_report, host_step, is_idle, is_idle_actor, placed_map, record_run, record_step, step_with_report, with_turn_after, worker_call, worker_step}
-use Rattle.crash_recover.proofs.DriveSteps.{other_busy}
+use Rattle.core_actors.specs.ActorSteps.{drive_of_reach, drive_of_work, first_or_take, has_calls, is_empty, is_rest, link_step}
+use Rattle.crash_recover.specs.Drives.{DriveStep, actor_to_step, after_record, drive_step, driven_with_report, host_step, is_idle, is_idle_actor, placed_map, record_step, with_turn_after, worker_call}
+use Rattle.core_laws.specs.DriveParts.{beside_actor}
+use Rattle.core_laws.proofs.DriveWalks.{AreLeftParts, HoldOfParts, drive_left, drive_walk}
 use Rattle.drive_laws.specs.Queues.{IsQueued}
 use Rattle.drive_laws.specs.Steps.{step_by, after_steps}
 use Rattle.drive_laws.proofs.QueueFacts.{all_stay, more_behind, queues_on}
-use Rattle.drive_laws.proofs.StepFacts.{host_steps, worker_steps}
+use Rattle.drive_laws.proofs.StepFacts.{call_steps, host_steps, report_keeps, worker_steps}
 
 -- ---- whose turn
 
@@ -103,62 +104,46 @@ two_steps core one busy later =
 
 -- ---- what a step was
 
--- a step was something
-abbrev IsSome : Driven → Type 0
-IsSome driven.Idle = ⊥
-IsSome driven.Stepped = Unit {0}
-IsSome (driven.Ended caller end) = Unit {0}
-IsSome (driven.Worker fault closed) = Unit {0}
-IsSome (driven.Crashed kind closed) = Unit {0}
+walk_busy : (caller : ℕ) (far : Reach) → is_rest (drive_of_reach caller far) ≡ false
+walk_busy caller (reach.At step) = refl
+walk_busy caller (reach.Ended end) = refl
+walk_busy caller reach.Limit = refl
 
-walk_is : (caller : ℕ) (far : Reach) → IsSome (drive_of_reach caller far)
-walk_is caller (reach.At step) = tt
-walk_is caller (reach.Ended end) = tt
-walk_is caller reach.Limit = tt
+work_busy : (done : Work) (core : CoreState) → is_rest (driven_with_report (drive_of_work done) core) ≡ false
+work_busy work.Nothing core = refl
+work_busy (work.Ask wanted) core = refl
+work_busy work.Halted core = refl
+work_busy (work.Crash kind) core = refl
+work_busy (work.Fault fault) core = refl
 
-work_is : (done : Work) (core : CoreState) → IsSome (driven_with_report (drive_of_work done) core)
-work_is work.Nothing core = tt
-work_is (work.Ask wanted) core = tt
-work_is work.Halted core = tt
-work_is (work.Crash kind) core = tt
-work_is (work.Fault fault) core = tt
+-- beside a step stands whether there was nothing to do
+abbrev none_on_link : Option BenchState → ℕ → Wish → Bool
+none_on_link found caller wanted = false
 
-host_is : (core : CoreState) (actors : ActorsState) (found : Option BenchState) → host_is_idle found actors ≡ false → IsSome (host_step core found).driven
-host_is core actors None busy = absurd cc
-host_is core actors (Some bench) busy = walk_is 0 (link_step bench 0 (first_or_take core.actors.host_calls)).reach
+abbrev none_on_record : Driven → CoreState → Bool
+none_on_record came core = false
 
-worker_is : (core : CoreState) → is_none core.loaded ≡ false → IsSome (worker_step core).driven
-worker_is core loaded = by (has_calls core.bench core.actors) refl
-  where
-    on_link : (found : Option BenchState) → has_calls found core.actors ≡ true → IsSome (worker_call core found).driven
-    on_link None calls = absurd cc
-    on_link (Some bench) calls = walk_is 1 (link_step bench 1 (first_or_take core.actors.worker_calls)).reach
+rest_parts : HoldOfParts true none_on_link none_on_record (λ (core : CoreState). Unit {0}) (λ (step : DriveStep) (rest : Bool). is_rest step.driven ≡ rest)
+rest_parts = record {
+  rest = λ core is. refl;
+  turn = λ who core is. tt;
+  host = λ core bench there busy is. walk_busy 0 (link_step bench 0 (first_or_take core.actors.host_calls)).reach;
+  call = λ core bench there busy is. walk_busy 1 (link_step bench 1 (first_or_take core.actors.worker_calls)).reach;
+  work = λ core load there silent busy is.
+      let map = placed_map core.regions load in work_busy (work_of load.memory map (is_some core.bench) core.actors.worker) (after_record core load map);
+}
 
-    of_record : (given : Option LoadState) → is_none given ≡ false → IsSome (step_with_report (record_run core given)).driven
-    of_record None there = absurd cc
-    of_record (Some load) there = let map = placed_map core.regions load in work_is (work_of load.memory map (is_some core.bench) core.actors.worker) (after_record core load map)
-
-    by : (calls : Bool) → has_calls core.bench core.actors ≡ calls → IsSome (cond calls (worker_call core core.bench) (record_step core)).driven
-    by true calls = on_link core.bench calls
-    by false calls = of_record core.loaded loaded
-
--- who acts has something to do
-step_some : (core : CoreState) (who : Actor) → is_idle_actor core who ≡ false → IsSome (step_by who core).driven
-step_some core actor.Host busy = host_is (with_turn_after actor.Host core) core.actors core.bench busy
-step_some core actor.Worker busy = worker_is (with_turn_after actor.Worker core) (or_parts (is_none core.loaded) (worker_is_idle core.bench core.actors) busy).0
+acts : (who : Actor) (core : CoreState) → beside_actor none_on_link none_on_record who core ≡ false
+acts actor.Host core = refl
+acts actor.Worker core = cond_both (has_calls core.bench core.actors) false false (λ (rest : Bool). rest ≡ false) (λ _. refl) (λ _. refl)
 
 pub idle_only : (core : CoreState) → (drive_step core).driven ≡ driven.Idle → is_idle core ≡ true
-idle_only core rest = by (is_idle core) refl
+idle_only core rest =
+    by (is_idle core) (sym (drive_walk true none_on_link none_on_record _ _ rest_parts core tt) ∙ ap is_rest rest)
   where
-    acted : (idle : Bool) → is_idle core ≡ false → is_idle_actor core core.actors.next ≡ idle → IsSome (drive_step core).driven
-    acted true busy is =
-        let works = other_busy core core.actors.next busy is in
-        subst (λ (step : DriveStep). IsSome step.driven) (sym (passed_turn core is works)) (step_some core (other_actor core.actors.next) works)
-    acted false busy is = subst (λ (step : DriveStep). IsSome step.driven) (sym (own_turn core is)) (step_some core core.actors.next is)
-
-    by : (idle : Bool) → is_idle core ≡ idle → is_idle core ≡ true
-    by true is = is
-    by false is = absurd (subst IsSome rest (acted (is_idle_actor core core.actors.next) is refl))
+    by : (idle : Bool) → cond idle true (beside_actor none_on_link none_on_record (actor_to_step core) (with_turn_after (actor_to_step core) core)) ≡ true → idle ≡ true
+    by true is = refl
+    by false is = absurd (false≢true (sym (acts (actor_to_step core) (with_turn_after (actor_to_step core) core)) ∙ is))
 
 -- ---- what is done on the link
 
@@ -221,17 +206,21 @@ heard bench caller end actors = heard_at (end_of (link_in bench).callers caller)
 pub host_queued : (core : CoreState) → IsQueued 1 core.actors.host_calls (step_by actor.Host core).core.actors.host_calls
 host_queued core = (host_steps (with_turn_after actor.Host core) core.bench).calls
 
-step_queued : (core : CoreState) (one : Actor) → IsQueued 1 core.actors.host_calls (step_by one core).core.actors.host_calls
-step_queued core actor.Host = host_queued core
-step_queued core actor.Worker =
-    subst (λ (left : List Wish). IsQueued 1 core.actors.host_calls left) (sym (worker_steps (with_turn_after actor.Worker core)).host_calls) (all_stay 1 core.actors.host_calls)
+stay_queued : (start after : List Wish) → after ≡ start → IsQueued 1 start after
+stay_queued start after same = subst (IsQueued 1 start) (sym same) (all_stay 1 start)
+
+-- each part of a step, of a core whose host actor is yet to make these calls
+queued_parts : (start : List Wish) → AreLeftParts (λ (core : CoreState). core.actors.host_calls ≡ start) (λ (core : CoreState). IsQueued 1 start core.actors.host_calls)
+queued_parts start = record {
+  turn = λ who core is. is;
+  host = λ core bench there busy is. subst (λ (before : List Wish). IsQueued 1 before (host_step core (Some bench)).core.actors.host_calls) is (host_steps core (Some bench)).calls;
+  call = λ core bench there busy is. stay_queued start _ ((call_steps core (Some bench)).step.host_calls ∙ is);
+  run = λ core load there silent busy is. stay_queued start _ is;
+  report = λ core is. subst (λ (actors : ActorsState). IsQueued 1 start actors.host_calls) (sym (report_keeps core)) is;
+}
 
 drive_queued : (core : CoreState) → IsQueued 1 core.actors.host_calls (drive_step core).core.actors.host_calls
-drive_queued core = by (is_idle core)
-  where
-    by : (idle : Bool) → IsQueued 1 core.actors.host_calls (cond idle (record { core = core; driven = driven.Idle }) (step_by (actor_to_step core) core)).core.actors.host_calls
-    by true = all_stay 1 core.actors.host_calls
-    by false = step_queued core (actor_to_step core)
+drive_queued core = drive_left _ _ (queued_parts core.actors.host_calls) (λ now same. stay_queued core.actors.host_calls now.actors.host_calls same) core refl
 
 pub steps_queued : (core : CoreState) (count : ℕ) → IsQueued count core.actors.host_calls (after_steps count core).actors.host_calls
 steps_queued core zero = all_stay 0 core.actors.host_calls

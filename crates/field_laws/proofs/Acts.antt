@@ -45,9 +45,9 @@ use Rattle.link_bench.proofs.ActAnswers.{AreTurnsOf, Came, CameBy, EndsTurns, Ha
 use Rattle.link_bench.proofs.ActParts.{KeptByParts, does_kept}
 use Rattle.link_bench.proofs.ActWalks.{FitCalls, act_done, act_kept}
 use Rattle.link_bench.proofs.Begun.{begin_may}
+use Rattle.link_bench.proofs.SendableActs.{calls_sendable}
 use Rattle.core_laws.specs.BenchMoves.{IsReachedBench}
 use Rattle.core_laws.proofs.BenchMoves.{advanced, begun_reached, called, enlisted, reclaim_tried}
-use Rattle.core_laws.proofs.SendableActs.{calls_sendable}
 use Rattle.core_laws.proofs.CrashReclaims.{reached_sound}
 use Rattle.field_laws.specs.Fields.{AreBytes, IsFieldLink, IsFieldWish}
 use Rattle.field_laws.specs.FieldBenches.{IsFieldAct, IsFieldActed, IsFieldBench, IsFieldBenchFault, IsFieldCall, IsFieldReach, IsFieldReclaim, IsFieldTurnEnd}

@@ -38,10 +38,10 @@ use Rattle.link_bench.specs.BenchEnds.{bench_to_reopen, crashed_bench, with_fres
 use Rattle.link_bench.specs.Benches.{BenchState, BenchWalk, IsSendable, Walk, LinkRings, advance_steps, advance_walk, begin_fault, begin_walk, begun_call_of, bench_walk, call_steps, call_walk, is_in_call, later_steps, link_in, lists_of, new_bench_of, on_lists, on_rings, start_walk, walk_lists, walk_on, with_begun, with_new_caller}
 use Rattle.link_bench.proofs.Begun.{begin_may}
 use Rattle.link_bench.proofs.CrashWalks.{crash_walk, remote_walk}
+use Rattle.link_bench.proofs.FitCalls.{begun_at, begun_or, calling_may}
 use Rattle.link_bench.proofs.KeptWalks.{next_may}
 use Rattle.link_bench.proofs.Lists.{call_lists, close_lists, later_lists, reclaim_lists}
 use Rattle.core_laws.specs.BenchMoves.{IsReachedBench}
-use Rattle.core_laws.proofs.BenchMoves.{begun_at, begun_or, calling_may}
 use Rattle.core_laws.proofs.CrashReclaims.{reached_sound}
 use Rattle.field_laws.specs.Fields.{IsFieldLane, IsFieldLink, IsFieldOutcome, IsFieldReceiving, IsFieldSending, IsFieldSide, IsFieldTurn, IsFieldWish}
 use Rattle.field_laws.specs.FieldBenches.{IsFieldBegun, IsFieldBench, IsFieldReach}

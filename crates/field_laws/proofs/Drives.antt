@@ -25,10 +25,11 @@ use Rattle.core_actors.specs.ActorEnds.{actors_after_end}
 use Rattle.core_actors.specs.ActorSteps.{drive_of_reach, drive_of_work, first_or_take, host_at_step, link_step}
 use Rattle.crash_recover.specs.CoreActs.{act_on_core, core_after_act}
 use Rattle.crash_recover.specs.Cores.{CoreState, LoadState}
-use Rattle.crash_recover.specs.Drives.{DriveStep, closed_by, core_with_report, drive_step, driven_with_report, host_step, placed_map, run_by, step_with_report, worker_call}
+use Rattle.crash_recover.specs.Drives.{DriveStep, closed_by, drive_step, driven_with_report, host_step, placed_map, run_by, step_with_report, worker_call}
 use Rattle.core_laws.specs.BenchMoves.{IsReachedBench, IsReachedCore}
-use Rattle.core_laws.proofs.CoreMoves.{first_sendable, reached_parts}
-use Rattle.core_laws.proofs.DriveWalks.{HoldOfSteps, MayGoOn, of_link, step_walk}
+use Rattle.core_laws.specs.DriveParts.{MayDrive}
+use Rattle.core_laws.proofs.CoreMoves.{StandsReady, first_sendable, link_reached, turned_stands}
+use Rattle.core_laws.proofs.DriveWalks.{HoldOfSteps, MayGoOn, may_host, may_worker, of_link, reported, step_walk}
 use Rattle.field_laws.specs.Fields.{IsFieldWish}
 use Rattle.field_laws.specs.FieldBenches.{IsFieldAct, IsFieldActed, IsFieldBench, IsFieldReach}
 use Rattle.field_laws.specs.FieldCores.{AreFieldCalls, IsFieldCore, IsFieldCrash, IsFieldDriven, IsFieldLoad, IsFieldPlaced}
@@ -56,11 +57,11 @@ by_reach caller (reach.At step) small is = tt
 by_reach caller (reach.Ended ended) small is = (small, is)
 by_reach caller reach.Limit small is = tt
 
-host_at : (core : CoreState) (bench : BenchState) → MayGoOn bench 0 core.actors.host_calls → IsReachedCore core → IsReachedBench bench → IsFieldCore core → IsFieldBench bench
-    → HoldsDrive (host_step core (Some bench))
-host_at core bench may reached here is fields =
+host_at : (core : CoreState) (bench : BenchState) → core.bench ≡ Some bench → StandsReady core → IsFieldCore core → HoldsDrive (host_step core (Some bench))
+host_at core bench there ready is =
     let walk = link_step bench 0 (first_or_take core.actors.host_calls) in
-    let left = link_fields bench 0 core.actors.host_calls may here fields (first_sendable core.actors.host_calls reached.calls.host) (first_fields core.actors.host_calls is.calls.host) in
+    let left = link_fields bench 0 core.actors.host_calls (may_host core bench there ready.may) (link_reached core bench there ready) (of_link IsFieldBench core bench there is.bench)
+    (first_sendable core.actors.host_calls ready.reached.calls.host) (first_fields core.actors.host_calls is.calls.host) in
     record {
       core = record {
         book = is.book;
@@ -75,11 +76,11 @@ host_at core bench may reached here is fields =
       driven = by_reach 0 walk.reach (omega arith) left.reach;
     }
 
-worker_at : (core : CoreState) (bench : BenchState) → MayGoOn bench 1 core.actors.worker_calls → IsReachedCore core → IsReachedBench bench → IsFieldCore core → IsFieldBench bench
-    → HoldsDrive (worker_call core (Some bench))
-worker_at core bench may reached here is fields =
+worker_at : (core : CoreState) (bench : BenchState) → core.bench ≡ Some bench → StandsReady core → IsFieldCore core → HoldsDrive (worker_call core (Some bench))
+worker_at core bench there ready is =
     let walk = link_step bench 1 (first_or_take core.actors.worker_calls) in
-    let left = link_fields bench 1 core.actors.worker_calls may here fields (first_sendable core.actors.worker_calls reached.calls.worker) (first_fields core.actors.worker_calls is.calls.worker) in
+    let left = link_fields bench 1 core.actors.worker_calls (may_worker core bench there ready.may) (link_reached core bench there ready) (of_link IsFieldBench core bench there is.bench)
+    (first_sendable core.actors.worker_calls ready.reached.calls.worker) (first_fields core.actors.worker_calls is.calls.worker) in
     record {
       core = record { book = is.book; life = is.life; image = is.image; loaded = is.loaded; placed = is.placed; rest = is.rest; bench = left.bench; calls = worker_fields core.actors walk.bench walk.reach left.reach is.calls };
       driven = by_reach 1 walk.reach (omega arith) left.reach;
@@ -112,13 +113,6 @@ run_fields core load same is here placed =
       driven = by_work (work_of load.memory map (is_some core.bench) core.actors.worker);
     }
 
-reported_fields : (event : Driven) (core : CoreState) → IsFieldCore core → IsFieldCore (core_with_report event core)
-reported_fields driven.Idle core is = is
-reported_fields driven.Stepped core is = is
-reported_fields (driven.Ended caller ended) core is = is
-reported_fields (driven.Worker why closed) core is = (report_fields true core is).core
-reported_fields (driven.Crashed kind closed) core is = (report_fields true core is).core
-
 -- what a report closed is a number of the line
 closed_field : (answer : Result Crash LifeFault) → IfOk answer IsFieldCrash → IfSome (closed_by answer) (λ inc. inc < 2 ^ 64)
 closed_field (Ok (crash.First closed)) is = is
@@ -137,13 +131,13 @@ record_fields : (core : CoreState) (load : LoadState) → core.loaded ≡ Some l
 record_fields core load same is =
     let done = run_by core load (placed_map core.regions load) in
     let ran = run_fields core load same is (subst (λ (found : Option LoadState). IfSome found IsFieldLoad) same is.loaded) (subst (λ (found : Option LoadState). IfSome found (IsFieldPlaced core.regions)) same is.placed) in
-    record { core = reported_fields done.driven done.core ran.core; driven = closed_fields done.driven done.core ran.core ran.driven }
+    record { core = reported IsFieldCore (λ left is. (report_fields true left is).core) done.driven done.core ran.core; driven = closed_fields done.driven done.core ran.core ran.driven }
 
 -- ---- a step of the actors
 
--- a core that is reached, with its fields
+-- a core whose actors may make their next steps, with its fields
 record HoldsCore (core : CoreState) : Type 0 where
-  pub reached : IsReachedCore core
+  pub ready : StandsReady core
   pub fields : IsFieldCore core
 
 drive_parts : HoldOfSteps HoldsCore HoldsDrive
@@ -152,16 +146,16 @@ drive_parts = record {
   turn = λ who core is.
       let fields = is.fields in
       record {
-        reached = reached_parts.turn who core is.reached;
+        ready = turned_stands who core is.ready;
         fields = record { book = fields.book; life = fields.life; image = fields.image; loaded = fields.loaded; placed = fields.placed; rest = fields.rest; bench = fields.bench; calls = record { host = fields.calls.host; worker = fields.calls.worker } };
       };
-  host = λ core bench there may is. host_at core bench may is.reached (of_link IsReachedBench core bench there is.reached.bench) is.fields (of_link IsFieldBench core bench there is.fields.bench);
-  call = λ core bench there may is. worker_at core bench may is.reached (of_link IsReachedBench core bench there is.reached.bench) is.fields (of_link IsFieldBench core bench there is.fields.bench);
-  work = λ core load there silent is. record_fields core load there is.fields;
+  host = λ core bench there busy is. host_at core bench there is.ready is.fields;
+  call = λ core bench there busy is. worker_at core bench there is.ready is.fields;
+  work = λ core load there silent busy is. record_fields core load there is.fields;
 }
 
-pub drive_fields : (core : CoreState) → IsReachedCore core → IsFieldCore core → HoldsDrive (drive_step core)
-drive_fields core reached is = step_walk HoldsCore HoldsDrive drive_parts core (record { reached = reached; fields = is })
+pub drive_fields : (core : CoreState) → MayDrive core → IsReachedCore core → IsFieldCore core → HoldsDrive (drive_step core)
+drive_fields core may reached is = step_walk HoldsCore HoldsDrive drive_parts core (record { ready = record { may = may; reached = reached }; fields = is })
 
 -- ---- acts on the link of a core
 

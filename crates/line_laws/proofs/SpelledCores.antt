@@ -15,7 +15,7 @@ use Rattle.rp_base.specs.Limits.{ring_capacity}
 use Rattle.rp_io.specs.declared.faults.FetchFault.TheVariants as fetch
 use Rattle.proc_state.specs.declared.answers.LifeFault.{LifeFault}
 use Rattle.proc_state.specs.declared.answers.LifeFault.TheVariants as life
-use Rattle.proc_state.specs.Lives.{is_offline}
+use Rattle.proc_state.specs.Lives.{is_offline, is_up}
 use Rattle.elf_image.specs.declared.faults.ElfFault.{ElfFault}
 use Rattle.elf_image.specs.declared.faults.ElfFault.TheVariants as elf_fault
 use Rattle.elf_image.specs.Faults as elf
@@ -82,7 +82,6 @@ use Rattle.crash_recover.specs.Cores.{CoreState, LoadState, add_fault, bytes_at,
 use Rattle.crash_recover.specs.Drives.{drive_step}
 use Rattle.core_laws.specs.BenchMoves.{IsReachedBench, IsReachedCore}
 use Rattle.core_laws.proofs.CoreActs.{acted_reached}
-use Rattle.core_laws.proofs.CoreMoves.{core_driven}
 use Rattle.core_laws.proofs.CrashReclaims.{reached_sound}
 use Rattle.link_commands.specs.declared.acts.CoreAct.{CoreAct}
 use Rattle.link_commands.specs.declared.acts.CoreAct.TheVariants as act
@@ -105,7 +104,7 @@ use Rattle.command_run.specs.CoreViews.{core_view_events, loaded_table_events, m
 use Rattle.command_run.specs.NamedCores.{NamedCoreState}
 use Rattle.command_run.specs.NamedImages.{ImageState}
 use Rattle.command_run.specs.Stores.{Answer}
-use Rattle.run_laws.specs.Drives.{rests}
+use Rattle.run_laws.proofs.CoresReady.{IsSoundCore, may_drive, sound_cores}
 use Rattle.run_laws.proofs.ScriptDrives.{drive_keeps, drive_tells, last_is}
 use Rattle.way_laws.proofs.CoreRungs.{IsRung, IsRungCore}
 use Rattle.field_laws.specs.Fields.{AreBytes, IsFieldEnd}
@@ -116,7 +115,7 @@ use Rattle.field_laws.proofs.Rooms.{range_in, slice_some}
 use Rattle.field_laws.proofs.Bytes.{range_bytes, text_bytes}
 use Rattle.field_laws.proofs.Cores.{IsFieldResult, boot_fields, detach_fields, handover_fields, recovery_fields, report_fields, shutdown_fields}
 use Rattle.field_laws.proofs.DumpSizes.{loaded_short}
-use Rattle.field_laws.proofs.Drives.{core_act_fields, drive_fields}
+use Rattle.field_laws.proofs.Drives.{HoldsDrive, core_act_fields, drive_fields}
 use Rattle.field_laws.proofs.Images.{memory_bytes}
 use Rattle.field_laws.proofs.Rings.{ring_are}
 use Rattle.field_laws.proofs.Sides.{find_has}
@@ -560,45 +559,48 @@ module _ (name : List ℕ) (named : IsName name) where
       All-cons IsSpelled (event.WorkerFault name (worker.fault_number why)) (crash_events name crash_kind.Fatal closed) (((named, (worker_number why, tt)), tt)) (crashed_told crash_kind.Fatal closed of)
   driven_told is_quiet found (driven.Crashed kind closed) of reached is = crashed_told kind closed of
 
-  -- a core that is reached, whose numbers and bytes are within their types
+  -- a core that is sound, whose numbers and bytes are within their types
   abbrev IsHeld : CoreState → Type 0
-  IsHeld core = IsReachedCore core × IsFieldCore core
+  IsHeld core = IsSoundCore core × IsFieldCore core
 
-  drive_spelled : (is_quiet : Bool) (core : CoreState) (steps count : ℕ) → IsReachedCore core → IsFieldCore core → LeavesSpelled (drive_effect name is_quiet core steps count)
-  drive_spelled is_quiet core steps count reached is = record {
-    left = (drive_keeps name is_quiet IsHeld stays core steps count (reached, is)).1;
-    events = drive_tells name is_quiet IsHeld stays IsSpelled tells (λ core. last_is name IsSpelled core (((named, tt), tt)) (((named, tt), tt)) (((named, tt), tt))) (((named, tt), tt)) core steps count (reached, is);
+  drive_spelled : (is_quiet : Bool) (core : CoreState) (steps count : ℕ) → IsSoundCore core → IsFieldCore core → LeavesSpelled (drive_effect name is_quiet core steps count)
+  drive_spelled is_quiet core steps count sound is = record {
+    left = (drive_keeps name is_quiet IsHeld stays core steps count (sound, is)).1;
+    events = drive_tells name is_quiet IsHeld stays IsSpelled tells (λ core. last_is name IsSpelled core (((named, tt), tt)) (((named, tt), tt)) (((named, tt), tt))) (((named, tt), tt)) core steps count (sound, is);
   }
     where
-      stays : (core : CoreState) → rests core ≡ false → IsHeld core → IsHeld (drive_step core).core
-      stays core goes held = (core_driven core held.0, (drive_fields core held.0 held.1).core)
+      holds : (core : CoreState) → is_up core.life.state ≡ true → IsHeld core → HoldsDrive (drive_step core)
+      holds core up held = drive_fields core (may_drive core up held.0) held.0.reached held.1
 
-      tells : (core : CoreState) → rests core ≡ false → IsHeld core → All IsSpelled (step_events name is_quiet (drive_step core))
-      tells core goes held =
+      stays : (core : CoreState) → is_up core.life.state ≡ true → IsHeld core → IsHeld (drive_step core).core
+      stays core up held = (sound_cores.drive core up held.0, (holds core up held).core)
+
+      tells : (core : CoreState) → is_up core.life.state ≡ true → IsHeld core → All IsSpelled (step_events name is_quiet (drive_step core))
+      tells core up held =
           let step = drive_step core in
-          let holds = drive_fields core held.0 held.1 in
-          driven_told is_quiet step.core.bench step.driven holds.driven (core_driven core held.0).bench holds.core.bench
+          let left = holds core up held in
+          driven_told is_quiet step.core.bench step.driven left.driven (sound_cores.drive core up held.0).reached.bench left.core.bench
 
 -- ---- what is done under the name of a core
 
 module _ (images : List ImageState) (answer : Answer) (is_quiet : Bool) (on : NamedCoreState) (steps : ℕ) (named : IsName on.name) (are : AreBytesImages images) (told_are : IfOk answer AreBytes)
-    (reached : IsReachedCore on.core) (is : IsFieldCore on.core) (rungs : IsRungCore on.core) where
+    (sound : IsSoundCore on.core) (is : IsFieldCore on.core) (rungs : IsRungCore on.core) where
   asked_spelled : (asked : CoreAct) → IsKnownCore asked → LeavesSpelled (core_act_effect images answer is_quiet on steps asked)
   unfolding core_act_effect
   asked_spelled (act.Region region) knows = region_spelled on.name named on.core steps is region
   asked_spelled (act.Driver channel kind) knows = driver_spelled on.name named on.core steps is channel kind knows
-  asked_spelled (act.Start start) knows = start_spelled on.name named on.core is rungs.load.regions reached images answer are told_are start steps knows
+  asked_spelled (act.Start start) knows = start_spelled on.name named on.core is rungs.load.regions sound.reached images answer are told_are start steps knows
   asked_spelled act.Shutdown knows = shutdown_spelled on.name named on.core steps is
   asked_spelled act.Detach knows = detach_spelled on.name named on.core steps is
   asked_spelled (act.Show shown) knows = record { left = is; events = shown_spelled on.name named on.core is shown knows }
   asked_spelled (act.Crash kind) knows = crash_spelled on.name named on.core steps is kind
   asked_spelled (act.Recovery set) knows = switch_spelled on.name named on.core steps is set
-  asked_spelled (act.Drive count) knows = drive_spelled on.name named is_quiet on.core steps count reached is
+  asked_spelled (act.Drive count) knows = drive_spelled on.name named is_quiet on.core steps count sound is
 
   pub core_spelled : (wanted : NamedAct (List ℕ)) → IsKnownAct wanted → LeavesSpelled (core_effect images answer is_quiet on steps wanted)
   unfolding core_effect
   core_spelled (under.Make made) knows = told on.name named on.core steps (event.Exists on.name) is (((named, tt), tt))
-  core_spelled (under.Link asked) knows = link_at on.name named on.core steps is rungs asked on.core.bench knows.0 knows.1 reached.bench is.bench
+  core_spelled (under.Link asked) knows = link_at on.name named on.core steps is rungs asked on.core.bench knows.0 knows.1 sound.reached.bench is.bench
   core_spelled (under.Manage managed) knows = told on.name named on.core steps (event.Unknown on.name) is (((named, tt), tt))
-  core_spelled (under.Show shown) knows = record { left = is; events = view_shown on.name named on.core steps is rungs shown knows reached.bench }
+  core_spelled (under.Show shown) knows = record { left = is; events = view_shown on.name named on.core steps is rungs shown knows sound.reached.bench }
   core_spelled (under.Core asked) knows = asked_spelled asked knows

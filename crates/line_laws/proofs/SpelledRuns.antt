@@ -24,7 +24,7 @@ use Rattle.link_bench.specs.Acts.{IsFitAct}
 use Rattle.link_bench.specs.Benches.{BenchState, new_bench_of}
 use Rattle.crash_recover.specs.CoreParts.{core_parts}
 use Rattle.crash_recover.specs.Cores.{CoreState, LoadState}
-use Rattle.core_laws.specs.BenchMoves.{IsReachedBench, IsReachedCore}
+use Rattle.core_laws.specs.BenchMoves.{IsReachedBench}
 use Rattle.link_commands.specs.declared.acts.Line.{Line}
 use Rattle.link_commands.specs.declared.acts.Line.TheVariants as line
 use Rattle.link_commands.specs.declared.acts.Making.{Making}
@@ -40,10 +40,10 @@ use Rattle.command_run.specs.NamedImages.{ImageState}
 use Rattle.link_commands.specs.NamedLinks.{NamedLink}
 use Rattle.command_run.specs.Runs.{ObjectsState, Run, RunEffect, RunState, asked_name, effect_by_core_place, core_made_effect, core_named, core_place, dump_answer, dump_effect, dump_effect_of, effect_of, find_core, effect_of_core, effect_of_link, has_image, image_effect, is_full, line_effect, effect_by_link_place, made_effect, making_effect, name_effect, new_end, new_run, place_of, quiet_effect, regions_of, run_from, run_of, run_on, run_tells, run_told, unnamed_effect, with_image, without_link_effect}
 use Rattle.command_run.specs.Stores.{Answer, Shelf, Told, later_told, told_answer}
-use Rattle.run_laws.specs.Reached.{AreReached}
 use Rattle.run_laws.proofs.CoreWalks.{FitsNamed}
+use Rattle.run_laws.proofs.CoresReady.{IsSoundCore}
 use Rattle.run_laws.proofs.RunWalks.{item_at}
-use Rattle.run_laws.proofs.RunsReached.{effect_reached}
+use Rattle.run_laws.proofs.RunsReached.{AreSound, command_sound, none_sound}
 use Rattle.act_laws.specs.Accounts.{Account}
 use Rattle.act_laws.proofs.Tales.{IsSoundTale}
 use Rattle.way_laws.proofs.CoreRungs.{IsRungCore, core_rung, new_core_rung}
@@ -155,12 +155,12 @@ fits_named (under.Show shown) knows = tt
 fits_named (under.Core asked) knows = tt
 
 module _ (answer : Answer) (told_are : IfOk answer AreBytes) (run : RunState) (name : List ℕ) (wanted : NamedAct (List ℕ)) (named : IsName name) (knows : IsKnownAct wanted) (are : AreFieldObjects run.objects)
-    (reached : AreReached run.objects) where
+    (sound : AreSound run.objects) where
   core_at : (place : ℕ) (found : Option NamedCoreState) → slice_get run.objects.cores place ≡ found → RunSpelled (effect_of_core answer run name wanted place found)
   core_at place None none_there = unnamed run are name named wanted knows
   core_at place (Some on) found =
       let is = item_at IsFieldNamedCore run.objects.cores place on found are.cores in
-      let came = item_at (λ (at : NamedCoreState). IsReachedCore at.core) run.objects.cores place on found reached.cores in
+      let came = item_at (λ (at : NamedCoreState). IsSoundCore at.core) run.objects.cores place on found sound.cores in
       let left = core_spelled run.objects.images answer run.objects.is_quiet on run.steps is.name are.images told_are came is.core is.rungs wanted knows in
       record {
         left = record { links = are.links; cores = All-set IsFieldNamedCore run.objects.cores place _ (record { name = is.name; core = left.left; rungs = core_rung run.objects.images answer on run.steps came is.rungs run.objects.is_quiet wanted (fits_named wanted knows) }) are.cores; images = are.images };
@@ -179,7 +179,7 @@ module _ (answer : Answer) (told_are : IfOk answer AreBytes) (run : RunState) (n
   link_at place None none_there = without_link
   link_at place (Some on) found =
       let is = item_at IsFieldNamedLink run.objects.links place on found are.links in
-      let came = item_at (λ (at : NamedLink). IsReachedBench at.bench) run.objects.links place on found reached.links in
+      let came = item_at (λ (at : NamedLink). IsReachedBench at.bench) run.objects.links place on found sound.links in
       let left = link_spelled on run.steps wanted is.name knows is.tale.tale.sound (record { reached = came; fields = is.bench }) in
       record {
         left = record {
@@ -267,17 +267,17 @@ module _ (name image : List ℕ) (named : IsName name) (called : IsName image) w
 
 -- ---- commands
 
-by_line : (answer : Answer) (run : RunState) (wanted : Line (List RecipeLine) (List ℕ)) → IfOk answer AreBytes → IsKnownLine wanted → AreFieldObjects run.objects → AreReached run.objects
+by_line : (answer : Answer) (run : RunState) (wanted : Line (List RecipeLine) (List ℕ)) → IfOk answer AreBytes → IsKnownLine wanted → AreFieldObjects run.objects → AreSound run.objects
     → RunSpelled (line_effect answer run wanted)
-by_line answer run (line.Image name lines) told_are knows are reached = imaged run name lines knows.0 knows.1 knows.2 are
-by_line answer run (line.Quiet set) told_are knows are reached = quieted run set are
-by_line answer run (line.Dump name image) told_are knows are reached = dump_spelled name image knows.0 knows.1 run are
-by_line answer run (line.On name wanted) told_are knows are reached = by_name answer told_are run name wanted knows.0 knows.1 are reached
+by_line answer run (line.Image name lines) told_are knows are sound = imaged run name lines knows.0 knows.1 knows.2 are
+by_line answer run (line.Quiet set) told_are knows are sound = quieted run set are
+by_line answer run (line.Dump name image) told_are knows are sound = dump_spelled name image knows.0 knows.1 run are
+by_line answer run (line.On name wanted) told_are knows are sound = by_name answer told_are run name wanted knows.0 knows.1 are sound
 
-effect_spelled : (answer : Answer) (run : RunState) (wanted : Command) → IfOk answer AreBytes → IsKnownLine (line_of wanted) → AreFieldObjects run.objects → AreReached run.objects
+effect_spelled : (answer : Answer) (run : RunState) (wanted : Command) → IfOk answer AreBytes → IsKnownLine (line_of wanted) → AreFieldObjects run.objects → AreSound run.objects
     → RunSpelled (effect_of answer run wanted)
 unfolding effect_of
-effect_spelled answer run wanted told_are knows are reached = by_line answer run (line_of wanted) told_are knows are reached
+effect_spelled answer run wanted told_are knows are sound = by_line answer run (line_of wanted) told_are knows are sound
 
 -- ---- runs
 
@@ -292,20 +292,20 @@ on_spelled effect None later first rest = All-append IsSpelled effect.events lat
 on_spelled effect (Some why) later first rest = first
 
 told_spelled : (run : RunState) (wanted : Command) (answer : Option Answer) (later : RunState → Run) → IfSome answer (λ (answer : Answer). IfOk answer AreBytes) → IsKnownLine (line_of wanted) → IsRunnable wanted
-    → AreFieldObjects run.objects → AreReached run.objects → ((next : RunState) → AreFieldObjects next.objects → AreReached next.objects → All IsSpelled (later next).events)
+    → AreFieldObjects run.objects → AreSound run.objects → ((next : RunState) → AreFieldObjects next.objects → AreSound next.objects → All IsSpelled (later next).events)
     → All IsSpelled (run_told run wanted answer later).events
-told_spelled run wanted None later told_are knows runs are reached rest = none
-told_spelled run wanted (Some answer) later told_are knows runs are reached rest =
+told_spelled run wanted None later told_are knows runs are sound rest = none
+told_spelled run wanted (Some answer) later told_are knows runs are sound rest =
     let effect = effect_of answer run wanted in
-    let did = effect_spelled answer run wanted told_are knows are reached in
-    on_spelled effect effect.ending (later effect.run) did.events (rest effect.run did.left (effect_reached answer run wanted runs reached))
+    let did = effect_spelled answer run wanted told_are knows are sound in
+    on_spelled effect effect.ending (later effect.run) did.events (rest effect.run did.left (command_sound answer run wanted runs sound))
 
-run_spelled : (told : Told) (run : RunState) (commands : List Command) → TellsBytes told → AreKnown commands → AreRunnable commands → AreFieldObjects run.objects → AreReached run.objects
+run_spelled : (told : Told) (run : RunState) (commands : List Command) → TellsBytes told → AreKnown commands → AreRunnable commands → AreFieldObjects run.objects → AreSound run.objects
     → All IsSpelled (run_from told run commands).events
 unfolding run_from
-run_spelled told run [] tells know runs are reached = none
-run_spelled told run (first ∷ more) tells know runs are reached =
-    told_spelled run first (told_answer (told 0) (asked_name run.objects first)) (λ next. run_from (later_told told) next more) (answer_are (told 0) (asked_name run.objects first) (tells 0)) know.0 runs.0 are reached
+run_spelled told run [] tells know runs are sound = none
+run_spelled told run (first ∷ more) tells know runs are sound =
+    told_spelled run first (told_answer (told 0) (asked_name run.objects first)) (λ next. run_from (later_told told) next more) (answer_are (told 0) (asked_name run.objects first) (tells 0)) know.0 runs.0 are sound
     (λ next left came. run_spelled (later_told told) next more (λ number. tells (suc number)) know.1 runs.1 left came)
 
 pub lines_back : (told : Told) (commands : List Command) → TellsBytes told → IsScript commands → All IsWritten (run_of told commands).events
@@ -313,4 +313,4 @@ lines_back told commands tells script =
     All-weaker IsSpelled IsWritten read_back (run_of told commands).events
     (run_spelled told new_run commands tells (are_known commands script) (are_runnable commands script)
     (record { links = All-nil IsFieldNamedLink; cores = All-nil IsFieldNamedCore; images = All-nil (λ (image : ImageState). AreBytes image.bytes) })
-    (record { links = All-nil (λ (named : NamedLink). IsReachedBench named.bench); cores = All-nil (λ (named : NamedCoreState). IsReachedCore named.core) }))
+    none_sound)

@@ -13,3 +13,5 @@ pub mod Cuts
 pub mod ActParts
 pub mod ActAnswers
 pub mod ActWalks
+pub mod SendableActs
+pub mod FitCalls

@@ -27,42 +27,29 @@ module _ {W : Type 0} (sees : Seeing W) (done sender receiver : ℕ) where
   unfolding pump_turns
   turns_one more bench watcher steps = refl
 
-  -- the bench that a last turn leaves, whole or not
-  last_bench : (turn : Turns W) → turn.bench ≡ (after_turn 0 turn).turns.bench
-  unfolding pump_turns
-  last_bench turn =
-      elim (is_whole turn.ended) as (λ b. turn.bench ≡ (cond b (pump_turns sees 0 (done + 1) sender receiver turn.bench turn.watcher turn.steps) (record { turns = turn; done = done })).turns.bench)
-      [ true ↦ refl | false ↦ refl ]
+  module _ (bench : BenchState) (watcher : W) (steps : ℕ) (left : BenchState) (seen : W) (after : ℕ) (ended : TurnEnd) (more : ℕ)
+      (benched : left ≡ (one_turn sees sender receiver done bench watcher steps).bench) (sights : seen ≡ (one_turn sees sender receiver done bench watcher steps).watcher)
+      (stepped : after ≡ (one_turn sees sender receiver done bench watcher steps).steps) (ends : ended ≡ (one_turn sees sender receiver done bench watcher steps).ended) where
+    -- a turn and more, which left this and ended so
+    turns_on : after_turn more (record { bench = left; watcher = seen; steps = after; ended = ended }) ≡ pump_turns sees (suc more) done sender receiver bench watcher steps
+    turns_on =
+        let turn = one_turn sees sender receiver done bench watcher steps in
+        let made : record { bench = left; watcher = seen; steps = after; ended = ended } ≡ turn =
+        ap (λ (b : BenchState). record { bench = b; watcher = seen; steps = after; ended = ended }) benched
+        ∙ ap (λ (a : W). record { bench = turn.bench; watcher = a; steps = after; ended = ended }) sights
+        ∙ ap (λ (s : ℕ). record { bench = turn.bench; watcher = turn.watcher; steps = s; ended = ended }) stepped
+        ∙ ap (λ (e : TurnEnd). record { bench = turn.bench; watcher = turn.watcher; steps = turn.steps; ended = e }) ends in
+        ap (after_turn more) made ∙ sym (turns_one more bench watcher steps)
 
-  module _ (bench : BenchState) (watcher : W) (steps : ℕ) where
-    pub turns_last : (one_turn sees sender receiver done bench watcher steps).bench ≡ (pump_turns sees 1 done sender receiver bench watcher steps).turns.bench
-    turns_last =
-        last_bench (one_turn sees sender receiver done bench watcher steps)
-        ∙ ap (λ (pumped : Pumped W). pumped.turns.bench) (sym (turns_one 0 bench watcher steps))
+    -- it was whole
+    pub turns_more : is_whole ended ≡ true → pump_turns sees more (done + 1) sender receiver left seen after ≡ pump_turns sees (suc more) done sender receiver bench watcher steps
+    turns_more whole =
+        ap (λ b. cond b (pump_turns sees more (done + 1) sender receiver left seen after) (record { turns = record { bench = left; watcher = seen; steps = after; ended = ended }; done = done })) (sym whole)
+        ∙ turns_on
 
-    module _ (left : BenchState) (seen : W) (after : ℕ) (ended : TurnEnd) (more : ℕ)
-        (benched : left ≡ (one_turn sees sender receiver done bench watcher steps).bench) (sights : seen ≡ (one_turn sees sender receiver done bench watcher steps).watcher)
-        (stepped : after ≡ (one_turn sees sender receiver done bench watcher steps).steps) (ends : ended ≡ (one_turn sees sender receiver done bench watcher steps).ended) where
-      -- a turn and more, which left this and ended so
-      turns_on : after_turn more (record { bench = left; watcher = seen; steps = after; ended = ended }) ≡ pump_turns sees (suc more) done sender receiver bench watcher steps
-      turns_on =
-          let turn = one_turn sees sender receiver done bench watcher steps in
-          let made : record { bench = left; watcher = seen; steps = after; ended = ended } ≡ turn =
-          ap (λ (b : BenchState). record { bench = b; watcher = seen; steps = after; ended = ended }) benched
-          ∙ ap (λ (a : W). record { bench = turn.bench; watcher = a; steps = after; ended = ended }) sights
-          ∙ ap (λ (s : ℕ). record { bench = turn.bench; watcher = turn.watcher; steps = s; ended = ended }) stepped
-          ∙ ap (λ (e : TurnEnd). record { bench = turn.bench; watcher = turn.watcher; steps = turn.steps; ended = e }) ends in
-          ap (after_turn more) made ∙ sym (turns_one more bench watcher steps)
-
-      -- it was whole
-      pub turns_more : is_whole ended ≡ true → pump_turns sees more (done + 1) sender receiver left seen after ≡ pump_turns sees (suc more) done sender receiver bench watcher steps
-      turns_more whole =
-          ap (λ b. cond b (pump_turns sees more (done + 1) sender receiver left seen after) (record { turns = record { bench = left; watcher = seen; steps = after; ended = ended }; done = done })) (sym whole)
-          ∙ turns_on
-
-      -- it was not
-      pub turns_stop : is_whole ended ≡ false
-          → record { turns = record { bench = left; watcher = seen; steps = after; ended = ended }; done = done } ≡ pump_turns sees (suc more) done sender receiver bench watcher steps
-      turns_stop not_whole =
-          ap (λ b. cond b (pump_turns sees more (done + 1) sender receiver left seen after) (record { turns = record { bench = left; watcher = seen; steps = after; ended = ended }; done = done })) (sym not_whole)
-          ∙ turns_on
+    -- it was not
+    pub turns_stop : is_whole ended ≡ false
+        → record { turns = record { bench = left; watcher = seen; steps = after; ended = ended }; done = done } ≡ pump_turns sees (suc more) done sender receiver bench watcher steps
+    turns_stop not_whole =
+        ap (λ b. cond b (pump_turns sees more (done + 1) sender receiver left seen after) (record { turns = record { bench = left; watcher = seen; steps = after; ended = ended }; done = done })) (sym not_whole)
+        ∙ turns_on

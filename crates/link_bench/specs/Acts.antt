@@ -1,5 +1,5 @@
 -- What is done on a link for its callers, what it leaves, and what comes of it (own).
-use Rattle.std.specs.Prelude.{◌≡◌, ℕ, ◌<◌, ◌≤◌, min, nat_le, nat_lt, List, length, Option, Some, None, is_some, option_map, Result, Ok, Err, if◌then◌else◌}
+use Rattle.std.specs.Prelude.{◌≡◌, ℕ, ◌<◌, ◌≤◌, nat_le, nat_lt, List, length, Option, Some, None, is_some, option_map, Result, Ok, Err, if◌then◌else◌}
 use Rattle.std.specs.Option.{option_or}
 use Rattle.rp_base.specs.declared.kinds.End.{End}
 use Rattle.rp_base.specs.declared.kinds.End.TheVariants as side
@@ -24,7 +24,7 @@ use Rattle.link_bench.specs.declared.benches.BenchFault.TheVariants as fault
 use Rattle.link_bench.specs.declared.bench_crashes.Reclaim.{Reclaim}
 use Rattle.link_bench.specs.Benches.{BenchState, BenchWalk, HoldsReachTaken, advance_walk, calling_fault, call_walk, is_in_call, link_in, ready_fault, step_fault, used_fault, with_begun, with_new_caller}
 use Rattle.link_bench.specs.BenchCrashes.{reclaim_answer, reclaim_leaves}
-use Rattle.link_bench.specs.Turns.{HoldsEndTaken, Pumped, pump_turns}
+use Rattle.link_bench.specs.Turns.{HoldsEndTaken, IsCutPump, Pumped, pump_turns}
 use Rattle.link_bench.specs.Watchers.{Seeing, watcher_after}
 
 -- what a call wishes, with the bytes that it names in place of what code has of them
@@ -57,17 +57,6 @@ IsFitAct (act.Step caller more) = (caller < CALLERS_MOST) × (more < STEPS_MOST)
 IsFitAct (act.Pump sender receiver count) = (sender < CALLERS_MOST) × (receiver < CALLERS_MOST) × (count ≤ STEPS_MOST)
 IsFitAct (act.Reclaim caller) = caller < CALLERS_MOST
 
--- an act, and of a pump at most so many turns
-abbrev pub cut_act : ℕ → LinkAct (List ℕ) → LinkAct (List ℕ)
-cut_act most (act.Pump sender receiver count) = act.Pump sender receiver (min most count)
-cut_act most other = other
-
--- an act that ends early, for want of memory, leaves this bench: what the act leaves, or a pump of fewer turns, and that act is fit too
-pub record IsCutAct (leaves : LinkAct (List ℕ) → BenchState) (whole : LinkAct (List ℕ)) (left : BenchState) : Type 0 where
-  pub most : ℕ
-  pub fit : IsFitAct (cut_act most whole)
-  pub bench : left ≡ leaves (cut_act most whole)
-
 -- what an act leaves of the bench and of who watches its link, the steps of the run until then, and what comes of it
 pub record Acted (W : Type 0) : Type 0 where
   pub bench : BenchState
@@ -81,6 +70,12 @@ pub record HasActed {W : Type 0} (acted : Acted W) (left : BenchState) (seen : W
   pub watcher : seen ≡ acted.watcher
   pub steps : counted ≡ acted.steps
   pub answer : told ≡ acted.answer
+
+-- an act on this bench that ends early, for want of memory, leaves that bench and this of who watches its link: a pump, what a pump of so many of its turns leaves, or of fewer; any other act, what was there
+abbrev pub IsCutAct : {W : Type 0} → (LinkAct (List ℕ) → Acted W) → LinkAct (List ℕ) → BenchState → W → BenchState → W → Type 0
+IsCutAct leaves (act.Pump sender receiver count) bench watcher left seen =
+    IsCutPump (λ done. (leaves (act.Pump sender receiver done)).bench) (λ done. (leaves (act.Pump sender receiver done)).watcher) count left seen
+IsCutAct leaves other bench watcher left seen = (left ≡ bench) × (seen ≡ watcher)
 
 -- where an answer tells of a call that was handed a message, the call's caller holds its buffer and is in no call
 abbrev pub HoldsAnswerTaken : LinkState EndState → ActAnswer → Type 0

@@ -100,11 +100,12 @@ pump_turns sees (suc more) done sender receiver bench watcher steps =
     if is_whole turn.ended then pump_turns sees more (done + 1) sender receiver turn.bench turn.watcher turn.steps
     else record { turns = turn; done = done }
 
--- turns that end early, for want of memory, leave this bench: what so many of them leave, or fewer
-pub record IsCutPump (leaves : ℕ → BenchState) (count : ℕ) (left : BenchState) : Type 0 where
+-- turns that end early, for want of memory, leave this bench and this of who watches its link: both are what so many of the turns leave of them, or fewer
+pub record IsCutPump {W : Type 0} (benches : ℕ → BenchState) (watchers : ℕ → W) (count : ℕ) (left : BenchState) (seen : W) : Type 0 where
   pub done : ℕ
   pub most : done ≤ count
-  pub bench : left ≡ leaves done
+  pub bench : left ≡ benches done
+  pub watcher : seen ≡ watchers done
 
 -- where a turn ended with a call that was handed a message, the call's caller holds its buffer and is in no call
 abbrev pub HoldsEndTaken : LinkState EndState → TurnEnd → Type 0

@@ -1,4 +1,4 @@
-ghost use Rattle.std.specs.Prelude.{◌≡◌, ◌<◌, ◌≤◌, IfOk, IfSome, None, OnErr};
+ghost use Rattle.std.specs.Prelude.{◌≡◌, ℕ, ◌<◌, ◌≤◌, IfOk, IfSome, None, OnErr};
 ghost use Rattle.rp_base.specs.declared.limits.TheConstants.{CALLERS_MOST, STEPS_MOST};
 ghost use Rattle.lane_model.specs.Links.{LinkState};
 ghost use Rattle.channel_bus.specs.Sides.{EndState};
@@ -107,8 +107,8 @@ impl Bench {
     /// Does an act on the link, the first `own` of whose callers are not there to others. The watcher
     /// sees the end of each call, that of a turn's take before its give, and `steps` counts the steps.
     ///
-    /// Errors: only for want of memory, where the watcher needs it: the bench is then as the act leaves it,
-    /// or as a pump of fewer turns does.
+    /// Errors: only for want of memory, where the watcher needs it before a call, before steps or before a
+    /// turn. Bench and watcher are then as they were, or, of a pump, as so many of its turns leave both.
     #[tactic(auto, unfolding(crate::specs::Acts::link_act))]
     pub fn act<W: Watcher>(
         &mut self,
@@ -120,7 +120,7 @@ impl Bench {
         requires fit { IsFitAct (bare_act (λ bytes. bytes.now) act.now) }
         ensures acted { IfOk result (HasActed (link_act W.sees own self.old (W.state watcher.old) steps.old (bare_act (λ bytes. bytes.now) act.now)) self.new (W.state watcher.new) steps.new) }
         ensures taken { IfOk result (HoldsAnswerTaken (link_in self.new)) }
-        ensures cut { OnErr result (IsCutAct (λ cut. (link_act W.sees own self.old (W.state watcher.old) steps.old cut).bench) (bare_act (λ bytes. bytes.now) act.now) self.new) }
+        ensures cut { OnErr result (IsCutAct (link_act W.sees own self.old (W.state watcher.old) steps.old) (bare_act (λ bytes. bytes.now) act.now) self.old (W.state watcher.old) self.new (W.state watcher.new)) }
     {
         if let Some(caller) = self.own_in(own, act) {
             return Ok(ActAnswer::Refused(caller, BenchFault::NoCaller));
@@ -150,8 +150,8 @@ impl Bench {
 
     /// Does an act that asks nothing for a caller of the link's own.
     ///
-    /// Errors: only for want of memory, where the watcher needs it: the bench is then as the act leaves it,
-    /// or as a pump of fewer turns does.
+    /// Errors: only for want of memory, where the watcher needs it. Bench and watcher are then as they were,
+    /// or, of a pump, as so many of its turns leave both.
     fn free_act<W: Watcher>(
         &mut self,
         watcher: &mut W,
@@ -161,7 +161,7 @@ impl Bench {
         requires fit { IsFitAct (bare_act (λ bytes. bytes.now) act.now) }
         ensures acted { IfOk result (HasActed (free_act W.sees self.old (W.state watcher.old) steps.old (bare_act (λ bytes. bytes.now) act.now)) self.new (W.state watcher.new) steps.new) }
         ensures taken { IfOk result (HoldsAnswerTaken (link_in self.new)) }
-        ensures cut { OnErr result (IsCutAct (λ cut. (free_act W.sees self.old (W.state watcher.old) steps.old cut).bench) (bare_act (λ bytes. bytes.now) act.now) self.new) }
+        ensures cut { OnErr result (IsCutAct (free_act W.sees self.old (W.state watcher.old) steps.old) (bare_act (λ bytes. bytes.now) act.now) self.old (W.state watcher.old) self.new (W.state watcher.new)) }
     {
         match act {
             LinkAct::Caller { end } => match self.caller(*end) {
@@ -186,7 +186,8 @@ impl Bench {
 
     /// A call of a caller, whole or only begun.
     ///
-    /// Errors: only for want of memory, where the watcher needs it. The call is made all the same.
+    /// Errors: only for want of memory, where the watcher needs it before a whole call. Nothing of the call
+    /// is done: bench and watcher are as they were.
     #[tactic(auto, unfolding(crate::specs::Acts::call_act))]
     fn call_act<W: Watcher>(
         &mut self,
@@ -200,7 +201,8 @@ impl Bench {
         requires fit { IsFitWish (bare_wish (λ bytes. bytes.now) wish.now) }
         ensures acted { IfOk result (HasActed (call_act W.sees self.old (W.state watcher.old) steps.old caller how (bare_wish (λ bytes. bytes.now) wish.now)) self.new (W.state watcher.new) steps.new) }
         ensures taken { IfOk result (HoldsAnswerTaken (link_in self.new)) }
-        ensures bench { self.new ≡ (call_act W.sees self.old (W.state watcher.old) steps.old caller how (bare_wish (λ bytes. bytes.now) wish.now)).bench }
+        ensures unchanged { OnErr result (self.new ≡ self.old) }
+        ensures unseen { OnErr result (W.state watcher.new ≡ W.state watcher.old) }
     {
         if let Some(fault) = self.ready_fault(caller) {
             return Ok(ActAnswer::Refused(caller, fault));
@@ -211,9 +213,10 @@ impl Bench {
         let wished = wish_of(wish);
         match how {
             How::Whole => {
+                watcher.make_room()?;
                 let mut reach = Reach::Limit;
                 self.call(caller, &wished, steps, &mut reach);
-                self.reach(watcher, caller, reach, steps)
+                Ok(self.reach(watcher, caller, reach, steps))
             }
             How::Begun => {
                 self.put_call(caller, wished);
@@ -239,7 +242,8 @@ impl Bench {
 
     /// One step of the call that a caller is in, and `more` further ones.
     ///
-    /// Errors: only for want of memory, where the watcher needs it. The steps are done all the same.
+    /// Errors: only for want of memory, where the watcher needs it before the steps. None of them is done:
+    /// bench and watcher are as they were.
     #[tactic(auto, unfolding(crate::specs::Acts::step_act))]
     fn step_act<W: Watcher>(
         &mut self,
@@ -252,38 +256,40 @@ impl Bench {
         requires more { more < STEPS_MOST }
         ensures acted { IfOk result (HasActed (step_act W.sees self.old (W.state watcher.old) steps.old caller more) self.new (W.state watcher.new) steps.new) }
         ensures taken { IfOk result (HoldsAnswerTaken (link_in self.new)) }
-        ensures bench { self.new ≡ (step_act W.sees self.old (W.state watcher.old) steps.old caller more).bench }
+        ensures unchanged { OnErr result (self.new ≡ self.old) }
+        ensures unseen { OnErr result (W.state watcher.new ≡ W.state watcher.old) }
     {
         if let Some(fault) = self.step_fault(caller) {
             return Ok(ActAnswer::Refused(caller, fault));
         }
+        watcher.make_room()?;
         let mut reach = Reach::Limit;
         self.advance(caller, more, steps, &mut reach);
-        self.reach(watcher, caller, reach, steps)
+        Ok(self.reach(watcher, caller, reach, steps))
     }
 
-    /// A call of a caller came so far, at this count of steps, and the watcher sees its end.
-    ///
-    /// Errors: only for want of memory, where the watcher needs it.
+    /// A call of a caller came so far, at this count of steps, and the watcher, which has room for it, sees
+    /// its end.
     fn reach<W: Watcher>(
         &self,
         watcher: &mut W,
         caller: CallerNo,
         reach: Reach,
         steps: &StepCount,
-    ) -> Result<ActAnswer, NoMemory>
-        requires { HoldsReachTaken (link_in self.now) caller reach }
-        ensures acted { IfOk result (λ answer. HasActed (walk_act W.sees (W.state watcher.old) caller (record { bench = self.now; steps = steps.now; reach = reach })) self.now (W.state watcher.new) steps.now answer) }
-        ensures taken { IfOk result (HoldsAnswerTaken (link_in self.now)) }
+    ) -> ActAnswer
+        requires room { W.HasRoom watcher.old }
+        requires taken { HoldsReachTaken (link_in self.now) caller reach }
+        ensures acted { HasActed (walk_act W.sees (W.state watcher.old) caller (record { bench = self.now; steps = steps.now; reach = reach })) self.now (W.state watcher.new) steps.now result }
+        ensures taken { HoldsAnswerTaken (link_in self.now) result }
     {
-        self.see_reach(watcher, caller, &reach)?;
-        Ok(ActAnswer::Reached(caller, reach))
+        self.see_reach(watcher, caller, &reach);
+        ActAnswer::Reached(caller, reach)
     }
 
     /// So many turns of two callers on two ends, where both are in use and neither is in a call.
     ///
-    /// Errors: only for want of memory, in a turn, where the watcher needs it: the bench is then as so many
-    /// turns leave it, or fewer.
+    /// Errors: only for want of memory, before a turn, where the watcher needs it: bench and watcher are then
+    /// as so many turns leave both, or fewer.
     #[tactic(auto, unfolding(crate::specs::Acts::pump_act))]
     fn pump_act<W: Watcher>(
         &mut self,
@@ -298,7 +304,8 @@ impl Bench {
         requires count { count ≤ STEPS_MOST }
         ensures acted { IfOk result (HasActed (pump_act W.sees self.old (W.state watcher.old) steps.old sender receiver count) self.new (W.state watcher.new) steps.new) }
         ensures taken { IfOk result (HoldsAnswerTaken (link_in self.new)) }
-        ensures cut { OnErr result (IsCutPump (λ done. (pump_act W.sees self.old (W.state watcher.old) steps.old sender receiver done).bench) count self.new) }
+        ensures cut { let left = λ (done : ℕ). pump_act W.sees self.old (W.state watcher.old) steps.old sender receiver done in
+            OnErr result (IsCutPump (λ done. (left done).bench) (λ done. (left done).watcher) count self.new (W.state watcher.new)) }
     {
         if let Some(answer) = self.pump_refusal(sender, receiver) {
             return Ok(answer);

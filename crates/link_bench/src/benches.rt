@@ -3,9 +3,10 @@ ghost use Rattle.rp_base.specs.declared.limits.TheConstants.{CALLERS_MOST, BOOK_
 ghost use Rattle.lane_model.specs.Links.{end_of, free_number};
 ghost use Rattle.channel_bus.specs.Sides.{side_meaning};
 ghost use Rattle.lane_model.specs.Desks.{IsFreshDesk};
-ghost use Rattle.lane_model.specs.Conditions.{IsConfig, is_calling, is_holding};
+ghost use Rattle.lane_model.specs.Conditions.{IsConfig, MayStep, is_calling, is_holding};
+ghost use Rattle.lane_model.specs.Soundness.{SoundLink};
 ghost use Rattle.managed_link.specs.Managed.{message_for};
-ghost use Rattle.link_bench.specs.Benches.{HoldsReachTaken, IsSendable, advance_walk, begin_fault, call_walk, counts_of, is_in_call, link_in, new_bench_of, no_begun_calls, ready_fault, start_walk, with_begun, with_new_caller};
+ghost use Rattle.link_bench.specs.Benches.{AreFitCalls, HoldsReachTaken, IsSendable, advance_walk, begin_fault, call_walk, counts_of, is_in_call, link_in, new_bench_of, no_begun_calls, ready_fault, start_walk, with_begun, with_new_caller};
 
 use crate::step_counts::StepCount;
 use crate::steps::{call_steps, later_steps};
@@ -241,7 +242,7 @@ impl Bench {
     }
 
     /// Does the first step of a call of a caller that may begin it; `steps` counts it, and `reach` says
-    /// how far the call came.
+    /// how far the call came. That step may be done.
     pub fn start(
         &mut self,
         caller: CallerNo,
@@ -253,11 +254,21 @@ impl Bench {
         ensures bench { self.new ≡ (start_walk self.old steps.old caller wished.now).bench }
         ensures steps { steps.new ≡ (start_walk self.old steps.old caller wished.now).steps }
         ensures reach { reach.new ≡ (start_walk self.old steps.old caller wished.now).reach }
+        ensures may { MayStep (link_in self.old) caller (Some wished.now) }
         ensures taken { HoldsReachTaken (link_in self.new) caller reach.new }
     {
         show_sendable(wished);
         let follows = self.link.era().inc;
         call_steps(&mut self.link, caller, follows, wished, 0, steps, reach);
+    }
+
+    /// The link of a bench is sound, and the first step of each call that is begun may be done.
+    #[inline(always)]
+    pub fn show_sound(&self)
+        ensures sound { SoundLink (link_in self.now) }
+        ensures fit { AreFitCalls (link_in self.now) self.now.begun }
+    {
+        self.link.show_sound();
     }
 
     /// The message of this number, which a caller that is in no call holds.

@@ -1,4 +1,4 @@
-ghost use Rattle.std.specs.Prelude.{◌≡◌, ◌<◌, ◌≤◌, ◌+◌, ◌++◌, IfNone, IfOk, IfSome, MatchOption, OnErr, OnOk, length};
+ghost use Rattle.std.specs.Prelude.{◌≡◌, ℕ, ◌<◌, ◌≤◌, ◌+◌, ◌++◌, IfNone, IfOk, IfSome, MatchOption, OnErr, OnOk, length};
 ghost use Rattle.rp_base.specs.declared.limits.TheConstants.{CALLERS_MOST, MESSAGE_MOST, PAYLOAD_MOST, STEPS_MOST};
 ghost use Rattle.lane_model.specs.declared.calls.Wish.TheVariants as wish;
 ghost use Rattle.byteorder.specs.Endian.{little_bytes};
@@ -38,8 +38,8 @@ impl Bench {
     /// the end of each take before its give. `ended` says how the last turn ended, and `steps` counts
     /// the steps.
     ///
-    /// Errors: only for want of memory, in a turn, where the watcher needs it. That turn is the last one, and
-    /// is done like the others: the bench is then as so many turns leave it, or fewer.
+    /// Errors: only for want of memory, before a turn, where the watcher needs it. Nothing of that turn is
+    /// done: bench and watcher are then as so many turns leave both, or fewer.
     pub fn turns<W: Watcher>(
         &mut self,
         watcher: &mut W,
@@ -58,10 +58,12 @@ impl Bench {
         ensures ended { OnOk result (ended.new ≡ (pump_turns W.sees count 0 sender receiver self.old (W.state watcher.old) steps.old).turns.ended) }
         ensures taken { OnOk result (HoldsEndTaken (link_in self.new) ended.new) }
         ensures done { IfOk result (λ done. done ≡ (pump_turns W.sees count 0 sender receiver self.old (W.state watcher.old) steps.old).done) }
-        ensures cut { OnErr result (IsCutPump (λ done. (pump_turns W.sees done 0 sender receiver self.old (W.state watcher.old) steps.old).turns.bench) count self.new) }
+        ensures cut { let left = λ (done : ℕ). (pump_turns W.sees done 0 sender receiver self.old (W.state watcher.old) steps.old).turns in
+            OnErr result (IsCutPump (λ done. (left done).bench) (λ done. (left done).watcher) count self.new (W.state watcher.new)) }
     {
         for done in 0..count {
-            self.turn(watcher, sender, receiver, done, steps, ended)?;
+            watcher.make_room()?;
+            self.turn(watcher, sender, receiver, done, steps, ended);
             if !ended.is_whole() {
                 return Ok(done);
             }
@@ -71,8 +73,6 @@ impl Bench {
     }
 
     /// A turn: a send of its number, a take, the give of what it took. `ended` says how it ended.
-    ///
-    /// Errors: only for want of memory, where the watcher needs it. The turn is done all the same.
     #[tactic(auto, unfolding(crate::specs::Turns::one_turn))]
     fn turn<W: Watcher>(
         &mut self,
@@ -82,26 +82,25 @@ impl Bench {
         number: u64,
         steps: &mut StepCount,
         ended: &mut TurnEnd,
-    ) -> Result<(), NoMemory>
+    )
+        requires room { W.HasRoom watcher.old }
         requires sender { sender < CALLERS_MOST }
         requires receiver { receiver < CALLERS_MOST }
         requires number { number ≤ STEPS_MOST }
         ensures bench { self.new ≡ (one_turn W.sees sender receiver number self.old (W.state watcher.old) steps.old).bench }
-        ensures watcher { OnOk result (W.state watcher.new ≡ (one_turn W.sees sender receiver number self.old (W.state watcher.old) steps.old).watcher) }
+        ensures watcher { W.state watcher.new ≡ (one_turn W.sees sender receiver number self.old (W.state watcher.old) steps.old).watcher }
         ensures steps { steps.new ≡ (one_turn W.sees sender receiver number self.old (W.state watcher.old) steps.old).steps }
         ensures ended { ended.new ≡ (one_turn W.sees sender receiver number self.old (W.state watcher.old) steps.old).ended }
         ensures taken { HoldsEndTaken (link_in self.new) ended.new }
     {
         let wished = Wish::Send(turn_message(number));
-        match self.turn_call(sender, &wished, steps, &mut Reach::Limit, ended) {
-            Some(_) => self.take_turn(watcher, receiver, steps, ended),
-            None => Ok(()),
+        let sent = self.turn_call(sender, &wished, steps, &mut Reach::Limit, ended);
+        if sent.is_some() {
+            self.take_turn(watcher, receiver, steps, ended);
         }
     }
 
     /// The take of a turn, of which the watcher sees the end, and the give of what was taken.
-    ///
-    /// Errors: only for want of memory, where the watcher needs it. The give is made all the same.
     #[tactic(auto, unfolding(crate::specs::Turns::take_turn))]
     fn take_turn<W: Watcher>(
         &mut self,
@@ -109,38 +108,31 @@ impl Bench {
         receiver: CallerNo,
         steps: &mut StepCount,
         ended: &mut TurnEnd,
-    ) -> Result<(), NoMemory>
+    )
+        requires room { W.HasRoom watcher.old }
         requires receiver { receiver < CALLERS_MOST }
         ensures bench { self.new ≡ (take_turn W.sees receiver self.old (W.state watcher.old) steps.old).bench }
-        ensures watcher { OnOk result (W.state watcher.new ≡ (take_turn W.sees receiver self.old (W.state watcher.old) steps.old).watcher) }
+        ensures watcher { W.state watcher.new ≡ (take_turn W.sees receiver self.old (W.state watcher.old) steps.old).watcher }
         ensures steps { steps.new ≡ (take_turn W.sees receiver self.old (W.state watcher.old) steps.old).steps }
         ensures ended { ended.new ≡ (take_turn W.sees receiver self.old (W.state watcher.old) steps.old).ended }
         ensures taken { HoldsEndTaken (link_in self.new) ended.new }
     {
         let mut reach = Reach::Limit;
-        let Some(number) = self.turn_call(receiver, &Wish::Take, steps, &mut reach, ended) else {
-            return Ok(());
-        };
-        let seen = self.see_reach(watcher, receiver, &reach);
-        self.give_turn(receiver, number, steps, ended);
-        seen
+        let taken = self.turn_call(receiver, &Wish::Take, steps, &mut reach, ended);
+        if let Some(number) = taken {
+            self.see_reach(watcher, receiver, &reach);
+            self.give_turn(receiver, number, steps, ended);
+        }
     }
 
-    /// The watcher sees the end of a call that came to its end.
-    ///
-    /// Errors: only for want of memory, where the watcher needs it.
-    pub(crate) fn see_reach<W: Watcher>(
-        &self,
-        watcher: &mut W,
-        caller: CallerNo,
-        reach: &Reach,
-    ) -> Result<(), NoMemory>
-        requires { HoldsReachTaken (link_in self.now) caller reach.now }
-        ensures { OnOk result (W.state watcher.new ≡ watcher_after W.sees self.now caller reach.now (W.state watcher.old)) }
+    /// The watcher, which has room for it, sees the end of a call that came to its end.
+    pub(crate) fn see_reach<W: Watcher>(&self, watcher: &mut W, caller: CallerNo, reach: &Reach)
+        requires room { W.HasRoom watcher.old }
+        requires taken { HoldsReachTaken (link_in self.now) caller reach.now }
+        ensures { W.state watcher.new ≡ watcher_after W.sees self.now caller reach.now (W.state watcher.old) }
     {
-        match reach {
-            Reach::Ended(end) => watcher.see(self, caller, end),
-            Reach::At(_) | Reach::Limit => Ok(()),
+        if let Reach::Ended(end) = reach {
+            watcher.see(self, caller, end);
         }
     }
 

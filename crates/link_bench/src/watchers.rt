@@ -17,12 +17,21 @@ pub trait Watcher {
     /// What it makes of the end of a call.
     ghost sees: { Seeing State };
 
-    /// Sees the end of a call of a caller, on the bench that the call left.
+    /// It has room for what it makes of the end of one call.
+    ghost HasRoom: { Self → Type 0 };
+
+    /// Makes room for what it makes of the end of one call.
     ///
     /// Errors: only for want of memory.
-    fn see(&mut self, bench: &Bench, caller: CallerNo, end: &CallEnd) -> Result<(), NoMemory>
-        requires { HoldsTaken (link_in bench.now) caller end.now }
-        ensures { OnOk result (state self.new ≡ sees bench.now caller end.now (state self.old)) };
+    fn make_room(&mut self) -> Result<(), NoMemory>
+        ensures room { OnOk result (HasRoom self.new) }
+        ensures same { state self.new ≡ state self.old };
+
+    /// Sees the end of a call of a caller, on the bench that the call left.
+    fn see(&mut self, bench: &Bench, caller: CallerNo, end: &CallEnd)
+        requires room { HasRoom self.old }
+        requires taken { HoldsTaken (link_in bench.now) caller end.now }
+        ensures { state self.new ≡ sees bench.now caller end.now (state self.old) };
 }
 
 /// A watcher that sees nothing.
@@ -38,7 +47,11 @@ impl Watcher for Nobody {
 
     ghost sees = { nobody_sees };
 
-    fn see(&mut self, _bench: &Bench, _caller: CallerNo, _end: &CallEnd) -> Result<(), NoMemory> {
+    ghost HasRoom = { λ _. Unit {0} };
+
+    fn make_room(&mut self) -> Result<(), NoMemory> {
         Ok(())
     }
+
+    fn see(&mut self, _bench: &Bench, _caller: CallerNo, _end: &CallEnd) {}
 }

@@ -5,6 +5,7 @@ ghost use Rattle.rp_base.specs.declared.limits.TheConstants.{BOOK_MOST, MESSAGE_
 ghost use Rattle.lane_model.specs.Conditions.{is_calling, is_holding};
 ghost use Rattle.lane_model.specs.Lanes.{holder};
 ghost use Rattle.lane_model.specs.Links.{end_of};
+ghost use Rattle.lane_model.specs.Soundness.{SoundLink};
 ghost use Rattle.split_ring.specs.ManagerCalls.{snapshot_of};
 ghost use Rattle.split_ring.specs.States.{turns_out};
 ghost use Rattle.vring_layout.specs.declared.snapshots.SnapshotFault.TheVariants as snapshot_fault;
@@ -27,6 +28,14 @@ impl ManagedLink {
         ensures { result ≡ self.now.era }
     {
         self.era
+    }
+
+    /// A managed link is sound, whatever was done on it.
+    #[inline(always)]
+    pub fn show_sound(&self)
+        ensures { SoundLink (lists_of self.now) }
+    {
+        let _era = self.era;
     }
 
     /// How many messages were accepted, handed over and given back on the lane to an end. No more are accepted than the largest book has room for.

@@ -1,9 +1,10 @@
 -- What is done under the name of a core keeps what each change of a core keeps.
-use Rattle.std.proofs.Common.{◌≡◌, inl, ℕ, Bool, List, [], ◌∷◌, ◌++◌, Option, Some, None, refl}
+use Rattle.std.proofs.Common.{◌≡◌, inl, ℕ, Bool, true, List, [], ◌∷◌, ◌++◌, Option, Some, None, refl}
 use Rattle.rp_base.specs.declared.kinds.CrashKind.{CrashKind}
 use Rattle.rp_base.specs.declared.kinds.DriverKind.{DriverKind}
 use Rattle.rp_base.specs.declared.kinds.Switch.{Switch}
 use Rattle.memory_pool.specs.declared.regions.Region.{Region}
+use Rattle.proc_state.specs.Lives.{is_up}
 use Rattle.link_bench.specs.declared.acts.LinkAct.{LinkAct}
 use Rattle.link_bench.specs.Benches.{BenchState}
 use Rattle.crash_recover.specs.declared.core_faults.AddFault.{AddFault}
@@ -31,7 +32,7 @@ pub record KeepCores (Fits : LinkAct (List ℕ) → Type 0) (C : CoreState → T
   pub region : (core : CoreState) (region : Region) → add_fault core region ≡ None → C core → C (record core { regions = core.regions ++ region ∷ [] })
   pub driver : (core : CoreState) (channel : List ℕ) (kind : DriverKind) → C core → C (with_driver core (channel, kind))
   pub lives : Stays C
-  pub drive : (core : CoreState) → C core → C (drive_step core).core
+  pub drive : (core : CoreState) → is_up core.life.state ≡ true → C core → C (drive_step core).core
   pub act : (core : CoreState) (steps : ℕ) (asked : LinkAct (List ℕ)) → Fits asked → C core → C (core_act core steps asked).core
 
 -- this is known of the act on a link, if there is one
@@ -110,7 +111,7 @@ module _ (Fits : LinkAct (List ℕ) → Type 0) (C : CoreState → Type 0) (keep
   core_act_kept images answer is_quiet on steps (act.Show shown) is = is
   core_act_kept images answer is_quiet on steps (act.Crash kind) is = crash_kept on.name on.core steps is kind
   core_act_kept images answer is_quiet on steps (act.Recovery set) is = switch_kept on.name on.core steps is set
-  core_act_kept images answer is_quiet on steps (act.Drive count) is = drive_keeps on.name is_quiet C (λ core goes is. keep.drive core is) on.core steps count is
+  core_act_kept images answer is_quiet on steps (act.Drive count) is = drive_keeps on.name is_quiet C keep.drive on.core steps count is
 
   pub core_kept : (images : List ImageState) (answer : Answer) (is_quiet : Bool) (on : NamedCoreState) (steps : ℕ) (wanted : NamedAct (List ℕ)) → FitsNamed Fits wanted → C on.core
       → C (core_effect images answer is_quiet on steps wanted).core

@@ -15,7 +15,7 @@ cores_kept = record {
   region = λ core region clear is. is;
   driver = λ core channel kind is. is;
   lives = kept_stays;
-  drive = λ core is. core_driven core is;
+  drive = λ core up is. core_driven core is;
   act = λ core steps asked fits is. core_act_kept core steps asked is;
 }
 

@@ -15,6 +15,7 @@ use Rattle.crash_recover.specs.declared.core_faults.AddFault.{AddFault}
 use Rattle.crash_recover.specs.declared.core_faults.AddFault.TheVariants as add
 use Rattle.crash_recover.specs.CoreActs.{core_act_on}
 use Rattle.crash_recover.specs.Cores.{CoreState, add_fault}
+use Rattle.crash_recover.specs.Drives.{drive_step}
 use Rattle.core_laws.proofs.DriveWalks.{AreKeptParts, drive_kept}
 use Rattle.core_laws.proofs.Outcomes.{Stays, none_mapped, report_stays}
 use Rattle.script_lang.specs.declared.commands.Command.{Command}
@@ -62,24 +63,28 @@ more_sound core region clear is = added_sound core.regions region is (passes cor
 
 -- ---- calls, steps and acts leave the regions as they are
 
-regions_stay : Stays HasSoundRegions
-regions_stay = record {
-  same = λ core life image loaded same load is. is;
-  started = λ core life image loaded up load is. is;
-  unlinked = λ core life image loaded load is. is;
-  crashed = λ core life stops is. is;
-  readied = λ core may is. is;
-  recovered = λ core found clear may opens is. is;
-}
+module _ (P : List Region → Type 0) where
+  regions_stay : Stays (λ (core : CoreState). P core.regions)
+  regions_stay = record {
+    same = λ core life image loaded same load is. is;
+    started = λ core life image loaded up load is. is;
+    unlinked = λ core life image loaded load is. is;
+    crashed = λ core life stops is. is;
+    readied = λ core may is. is;
+    recovered = λ core found clear may opens is. is;
+  }
 
-regions_in_parts : AreKeptParts HasSoundRegions
-regions_in_parts = record {
-  turn = λ who core is. is;
-  host = λ core bench there may is. is;
-  call = λ core bench there may is. is;
-  run = λ core load there silent is. is;
-  report = λ core is. report_stays HasSoundRegions regions_stay true core is;
-}
+  regions_in_parts : AreKeptParts (λ (core : CoreState). P core.regions)
+  regions_in_parts = record {
+    turn = λ who core is. is;
+    host = λ core bench there busy is. is;
+    call = λ core bench there busy is. is;
+    run = λ core load there silent busy is. is;
+    report = λ core is. report_stays (λ (core : CoreState). P core.regions) regions_stay true core is;
+  }
+
+  pub regions_driven : (core : CoreState) → P core.regions → P (drive_step core).core.regions
+  regions_driven core is = drive_kept (λ (core : CoreState). P core.regions) regions_in_parts core is
 
 acted_sound : (core : CoreState) (steps : ℕ) (asked : LinkAct (List ℕ)) (found : Option BenchState) → HasSoundRegions core → HasSoundRegions (core_act_on core steps asked found).core
 acted_sound core steps asked None is = is
@@ -91,8 +96,8 @@ cores_sound : KeepCores AnyAct HasSoundRegions
 cores_sound = record {
   region = more_sound;
   driver = λ core channel kind is. is;
-  lives = regions_stay;
-  drive = drive_kept HasSoundRegions regions_in_parts;
+  lives = regions_stay SoundRegions;
+  drive = λ core up is. regions_driven SoundRegions core is;
   act = λ core steps asked fits is. acted_sound core steps asked core.bench is;
 }
 

@@ -2,7 +2,7 @@
 use Rattle.std.proofs.Common.{◌≡◌, ℕ, ◌+◌, ◌==◌, Bool, false, List, [], ◌∷◌, Option, Some, None, IfSome, refl, arith}
 use Rattle.std.specs.Prelude.{Contains}
 use Rattle.std.proofs.lemmas.Bool.{cond_both}
-use Rattle.std.proofs.lemmas.List.Elements.{All-contains}
+use Rattle.std.proofs.lemmas.List.Elements.{All-contains, All-nil}
 use Rattle.rp_base.specs.declared.limits.TheConstants.{STEPS_MOST}
 use Rattle.lane_model.specs.declared.calls.LinkConfig.{LinkConfig}
 use Rattle.lane_model.specs.declared.recoveries.ReopenFault.{ReopenFault}
@@ -19,8 +19,8 @@ use Rattle.link_bench.specs.BenchCrashes.{after_close}
 use Rattle.link_bench.specs.Watchers.{nobody_sees}
 use Rattle.core_laws.specs.BenchMoves.{IsReached, IsReachedBench, IsReachedCore}
 use Rattle.core_laws.proofs.BenchMoves.{closed, new_reached, reopened}
-use Rattle.core_laws.proofs.CoreActs.{acted_reached, core_act_reached}
-use Rattle.core_laws.proofs.CoreMoves.{core_driven, new_core_reached, reached_stays}
+use Rattle.core_laws.proofs.CoreActs.{acted_reached}
+use Rattle.core_laws.proofs.CoreMoves.{new_core_reached}
 use Rattle.core_laws.proofs.Handed.{got_front, got_whole, handed_once}
 use Rattle.core_laws.proofs.CrashReclaims.{reached_sound}
 use Rattle.link_commands.specs.declared.acts.ManagerAct.{ManagerAct}
@@ -33,11 +33,13 @@ use Rattle.link_commands.specs.LinkCommands.{link_effect, manager_effect}
 use Rattle.command_run.specs.NamedCores.{NamedCoreState}
 use Rattle.link_commands.specs.NamedLinks.{NamedLink}
 use Rattle.link_commands.specs.Recoveries.{close_effect, close_event, opened_effect, reopen_effect}
-use Rattle.command_run.specs.Runs.{RunState, effect_of, new_end, regions_of, run_of}
+use Rattle.command_run.specs.Runs.{ObjectsState, RunState, effect_of, new_end, new_run, regions_of, run_of}
 use Rattle.command_run.specs.Stores.{Answer, Told}
+use Rattle.run_laws.specs.Kept.{AreKept, AreReady}
 use Rattle.run_laws.specs.Reached.{AreReached, HandsInOrder}
-use Rattle.run_laws.proofs.CoreWalks.{FitsNamed, KeepCores}
-use Rattle.run_laws.proofs.RunWalks.{AreFitting, FitsLine, KeepRuns, effect_keeps, runs_keep}
+use Rattle.run_laws.proofs.CoreWalks.{FitsNamed}
+use Rattle.run_laws.proofs.CoresReady.{IsSoundCore, sound_cores}
+use Rattle.run_laws.proofs.RunWalks.{AreAll, AreFitting, FitsLine, KeepRuns, effect_keeps, runs_keep}
 
 -- ---- acts of commands that can be run
 
@@ -121,38 +123,57 @@ link_reached on steps (under.Core asked) fits is = is
 
 -- ---- links and cores of runs
 
-pub cores_reached : KeepCores IsFitAct IsReachedCore
-cores_reached = record {
-  region = λ core region clear is. record { bench = is.bench; calls = is.calls };
-  driver = λ core channel kind is. record { bench = is.bench; calls = record { host = is.calls.host; worker = is.calls.worker } };
-  lives = reached_stays;
-  drive = λ core is. core_driven core is;
-  act = λ core steps asked fits is. core_act_reached core steps asked fits is;
-}
-
-pub new_link_reached : (config : LinkConfig) (has_service : Bool) → IsReachedBench (new_bench_of config (new_end has_service) (new_end false))
+new_link_reached : (config : LinkConfig) (has_service : Bool) → IsReachedBench (new_bench_of config (new_end has_service) (new_end false))
 new_link_reached config has_service =
     new_reached config (new_end has_service) (new_end false) (record { endpoints = refl; bindings = refl }) (record { endpoints = refl; bindings = refl })
 
-all_reached : KeepRuns IsFitAct IsReachedBench IsReachedCore
-all_reached = record {
+all_sound : KeepRuns IsFitAct IsReachedBench IsSoundCore
+all_sound = record {
   new_link = λ config has_service. new_link_reached config has_service;
-  new_core = λ set book. new_core_reached (regions_of set) [] book;
+  new_core = λ set book. record { reached = new_core_reached (regions_of set) [] book; kept = tt; ready = record { begun = tt; calls = λ _. tt } };
   link = λ on steps wanted fits is. link_reached on steps wanted fits is;
-  core = cores_reached;
+  core = sound_cores;
 }
 
+-- what the links and the cores of a run are
+abbrev pub AreSound : ObjectsState → Type 0
+AreSound objects = AreAll IsReachedBench IsSoundCore objects
+
+pub none_sound : AreSound new_run.objects
+none_sound = record { links = All-nil (λ (named : NamedLink). IsReachedBench named.bench); cores = All-nil (λ (named : NamedCoreState). IsSoundCore named.core) }
+
 -- a command
-pub effect_reached : (answer : Answer) (run : RunState) (wanted : Command) → IsRunnable wanted → AreReached run.objects → AreReached (effect_of answer run wanted).run.objects
-effect_reached answer run wanted runs are =
-    let left = effect_keeps IsFitAct IsReachedBench IsReachedCore all_reached answer run wanted (line_fits wanted runs) (record { links = are.links; cores = are.cores }) in
-    record { links = left.links; cores = left.cores }
+pub command_sound : (answer : Answer) (run : RunState) (wanted : Command) → IsRunnable wanted → AreSound run.objects → AreSound (effect_of answer run wanted).run.objects
+command_sound answer run wanted runs are = effect_keeps IsFitAct IsReachedBench IsSoundCore all_sound answer run wanted (line_fits wanted runs) are
 
 -- a run
+pub run_sound : (told : Told) (commands : List Command) → AreRunnable commands → AreSound (run_of told commands).last.objects
+run_sound told commands runs = runs_keep IsFitAct IsReachedBench IsSoundCore all_sound told commands (lines_fit commands runs)
+
+-- the same, part by part
+are_reached : (objects : ObjectsState) → AreSound objects → AreReached objects
+are_reached objects are = record { links = are.links; cores = λ place item within. (are.cores place item within).reached }
+
+are_ready : (objects : ObjectsState) → AreSound objects → AreReady objects
+are_ready objects are = λ place item within. (are.cores place item within).ready
+
+module _ (answer : Answer) (run : RunState) (wanted : Command) (runs : IsRunnable wanted) (reached : AreReached run.objects) (kept : AreKept run.objects) (ready : AreReady run.objects) where
+  left : AreSound (effect_of answer run wanted).run.objects
+  left =
+      command_sound answer run wanted runs
+      (record { links = reached.links; cores = λ place item within. record { reached = reached.cores place item within; kept = kept place item within; ready = ready place item within } })
+
+  pub effect_reached : AreReached (effect_of answer run wanted).run.objects
+  effect_reached = are_reached (effect_of answer run wanted).run.objects left
+
+  pub effect_ready : AreReady (effect_of answer run wanted).run.objects
+  effect_ready = are_ready (effect_of answer run wanted).run.objects left
+
 pub runs_reached : (told : Told) (commands : List Command) → AreRunnable commands → AreReached (run_of told commands).last.objects
-runs_reached told commands runs =
-    let left = runs_keep IsFitAct IsReachedBench IsReachedCore all_reached told commands (lines_fit commands runs) in
-    record { links = left.links; cores = left.cores }
+runs_reached told commands runs = are_reached (run_of told commands).last.objects (run_sound told commands runs)
+
+pub runs_ready : (told : Told) (commands : List Command) → AreRunnable commands → AreReady (run_of told commands).last.objects
+runs_ready told commands runs = are_ready (run_of told commands).last.objects (run_sound told commands runs)
 
 -- ---- what links have handed over
 

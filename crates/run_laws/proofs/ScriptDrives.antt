@@ -11,9 +11,9 @@ use Rattle.journal.specs.declared.events.Event.TheVariants as event
 use Rattle.crash_recover.specs.Cores.{CoreState}
 use Rattle.crash_recover.specs.Drives.{drive_step, is_idle}
 use Rattle.command_run.specs.CoreEffects.{CoreEffect, core_tells}
-use Rattle.command_run.specs.CoreDrives.{drive_effect, drive_end, drive_steps, effect_behind, is_crashed, rest_event, rests_or, step_events}
+use Rattle.command_run.specs.CoreDrives.{IsDriven, drive_effect, drive_end, drive_steps, effect_behind, is_crashed, rest_event, rests_or, step_events}
 use Rattle.command_run.specs.CoreLives.{core_stops}
-use Rattle.command_run.proofs.Driving.{steps_end, steps_more}
+use Rattle.command_run.proofs.Driving.{step_driven, steps_end, steps_more}
 use Rattle.drive_laws.specs.Steps.{after_drive, after_steps, has_crashed, rests, steps_made}
 use Rattle.run_laws.specs.Drives.{drive_made, last_event, steps_events}
 
@@ -64,6 +64,16 @@ drive_by P none one (suc more) core steps = by (rests core || steps == STEPS_MOS
         P made more (drive_step core).core (steps + 1) → P (cond over 0 (suc made)) (suc more) core steps
     by true over later = none (suc more) core steps (inr over)
     by false on later = let parts = or_parts (rests core) (steps == STEPS_MOST) on in one (drive_made more (drive_step core).core (steps + 1)) more core steps parts.0 parts.1 later
+
+-- what holds of no step, and of a step of a core that is up and then others where it holds of these, holds of the steps that a drive makes of a core that is up
+pub drive_while_up : (P : ℕ → CoreState → Type 0) → ((core : CoreState) → P 0 core)
+    → ((made : ℕ) (core : CoreState) → is_up core.life.state ≡ true → P made (drive_step core).core → P (suc made) core)
+    → (count : ℕ) (core : CoreState) (steps : ℕ) → is_up core.life.state ≡ true → P (drive_made count core steps) core
+drive_while_up P none one count core steps up =
+    drive_by (λ made count core steps. IsDriven core → P made core)
+    (λ count core steps over driven. none core)
+    (λ made count core steps goes few later driven. one made core (driven (awake core goes).0) (later (step_driven core driven)))
+    count core steps (λ _. up)
 
 -- where the run has steps enough, they are those of a drive
 pub all_made : (count : ℕ) (core : CoreState) (steps : ℕ) → steps + count ≤ STEPS_MOST → drive_made count core steps ≡ steps_made count core
@@ -164,22 +174,25 @@ module _ (name : List ℕ) (is_quiet : Bool) where
       let all : (ending : List Event) → All Q ending → All Q (steps_events made name is_quiet core ++ ending) = λ ending. All-append Q (steps_events made name is_quiet core) ending told in
       drive_as (λ effect. All Q effect.events) count core steps (all (last_event name (after_steps made core) ∷ []) (All-cons Q (last_event name (after_steps made core)) [] last (All-nil Q))) (λ _ _ _. all [] (All-nil Q))
 
-  -- what each step of a core that doesn't rest keeps, a drive keeps, and what holds of all that each tells, of all that the drive tells
-  module _ (P : CoreState → Type 0) (keeps : (core : CoreState) → rests core ≡ false → P core → P (drive_step core).core) where
+  -- what each step of a core that is up keeps, a drive keeps, and what holds of all that each tells, of all that the drive tells
+  module _ (P : CoreState → Type 0) (keeps : (core : CoreState) → is_up core.life.state ≡ true → P core → P (drive_step core).core) where
     pub drive_keeps : (core : CoreState) (steps count : ℕ) → P core → P (drive_effect name is_quiet core steps count).core
     unfolding drive_effect
     drive_keeps core steps count is =
-        let left = steps_keep (λ core steps. P core) (λ core steps. keeps core) count core steps is in
         cond_both (is_up core.life.state) (drive_steps count name is_quiet core steps) (core_tells core steps (event.NotRunning name)) (λ effect. P effect.core)
-        (λ _. drive_as (λ effect. P effect.core) count core steps left (λ _ _ _. left)) (λ _. is)
+        (λ up.
+        let left = drive_while_up (λ made core. P core → P (after_steps made core)) (λ core is. is) (λ made core up later is. later (keeps core up is)) count core steps up is in
+        drive_as (λ effect. P effect.core) count core steps left (λ _ _ _. left))
+        (λ _. is)
 
-    pub drive_tells : (Q : Event → Type 0) → ((core : CoreState) → rests core ≡ false → P core → All Q (step_events name is_quiet (drive_step core)))
+    pub drive_tells : (Q : Event → Type 0) → ((core : CoreState) → is_up core.life.state ≡ true → P core → All Q (step_events name is_quiet (drive_step core)))
         → ((core : CoreState) → Q (last_event name core)) → Q (event.NotRunning name) → (core : CoreState) (steps count : ℕ) → P core → All Q (drive_effect name is_quiet core steps count).events
     unfolding drive_effect steps_events
     drive_tells Q tells last down core steps count is =
-        let told = drive_by (λ made count core steps. P core → All Q (steps_events made name is_quiet core)) (λ count core steps over is. All-nil Q)
-        (λ made count core steps goes few later is.
-        All-append Q (step_events name is_quiet (drive_step core)) (steps_events made name is_quiet (drive_step core).core) (tells core goes is) (later (keeps core goes is)))
-        count core steps is in
         cond_both (is_up core.life.state) (drive_steps count name is_quiet core steps) (core_tells core steps (event.NotRunning name)) (λ effect. All Q effect.events)
-        (λ _. drive_told Q count core steps told (last (after_steps (drive_made count core steps) core))) (λ _. All-cons Q (event.NotRunning name) [] down (All-nil Q))
+        (λ up.
+        let told = drive_while_up (λ made core. P core → All Q (steps_events made name is_quiet core)) (λ core is. All-nil Q)
+        (λ made core up later is. All-append Q (step_events name is_quiet (drive_step core)) (steps_events made name is_quiet (drive_step core).core) (tells core up is) (later (keeps core up is)))
+        count core steps up is in
+        drive_told Q count core steps told (last (after_steps (drive_made count core steps) core)))
+        (λ _. All-cons Q (event.NotRunning name) [] down (All-nil Q))

@@ -1,8 +1,7 @@
 -- What the links of a run's cores keep, what their actors hold, and which regions they have (own).
 use Rattle.std.specs.Prelude.{All}
 use Rattle.memory_pool.specs.Soundness.{SoundRegions}
-use Rattle.crash_recover.specs.Cores.{IsKeptCore}
-use Rattle.core_laws.specs.PendingCalls.{IsReadyCore}
+use Rattle.crash_recover.specs.Cores.{IsKeptCore, IsReadyCore}
 use Rattle.command_run.specs.NamedCores.{NamedCoreState}
 use Rattle.command_run.specs.Runs.{ObjectsState}
 

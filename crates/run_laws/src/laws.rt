@@ -51,8 +51,8 @@ pub fn faults_alone()
 /// After each list of commands, and so after each front of a script, each link comes by moves from the start of its incarnation, and so
 /// does the link of each core, whatever the store tells.
 pub fn links_reached()
-    ensures command { (answer : Answer) (run : RunState) (command : Command) → IsRunnable command → AreReached run.objects
-        → AreReached (effect_of answer run command).run.objects }
+    ensures command { (answer : Answer) (run : RunState) (command : Command) → IsRunnable command → AreReached run.objects → AreKept run.objects
+        → AreReady run.objects → AreReached (effect_of answer run command).run.objects }
     ensures run { (told : Told) (commands : List Command) → AreRunnable commands → AreReached (run_of told commands).last.objects }
 {}
 

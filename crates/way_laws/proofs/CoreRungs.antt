@@ -1,9 +1,9 @@
 -- The rings of the link of a core are sound: it is made over rings of a sound table, and each change keeps them.
 use Rattle.channel_bus.specs.Sides.{side_meaning}
-use Rattle.core_laws.proofs.CoreMoves.{reached_stays}
 use Rattle.core_laws.proofs.DriveWalks.{AreKeptParts, drive_kept}
 use Rattle.core_laws.proofs.Outcomes.{IsLoadOf, Stays, none_mapped, report_left}
 use Rattle.core_laws.specs.BenchMoves.{IsReachedBench, IsReachedCore}
+use Rattle.core_laws.specs.DriveParts.{MayDrive}
 use Rattle.crash_recover.proofs.Loads.{pair_config}
 use Rattle.core_actors.specs.Actors.{driver_names}
 use Rattle.crash_recover.specs.CoreActs.{act_on_core, core_act_on}
@@ -40,8 +40,8 @@ use Rattle.resource_table.specs.declared.entries.Entry.{Entry}
 use Rattle.resource_table.specs.declared.entries.Entry.TheVariants as entry
 use Rattle.resource_table.specs.declared.entries.Vdev.{Vdev}
 use Rattle.run_laws.proofs.CoreWalks.{FitsNamed, KeepCores, core_kept}
+use Rattle.run_laws.proofs.CoresReady.{IsSoundCore, may_drive, sound_cores, sound_stays}
 use Rattle.run_laws.proofs.RegionsSound.{first_sound, more_sound}
-use Rattle.run_laws.proofs.RunsReached.{cores_reached}
 use Rattle.script_lang.specs.Runnable.{IsBook}
 use Rattle.script_lang.specs.declared.commands.RegionSet.{RegionSet}
 use Rattle.command_run.specs.CoreCommands.{core_effect}
@@ -182,16 +182,16 @@ report_load core is = report_left IsFitLoad true core is (λ life stops. record 
 load_parts : AreKeptParts IsFitLoad
 load_parts = record {
   turn = λ who core is. record { book = is.book; regions = is.regions; rings = is.rings };
-  host = λ core bench there may is. record { book = is.book; regions = is.regions; rings = is.rings };
-  call = λ core bench there may is. record { book = is.book; regions = is.regions; rings = is.rings };
-  run = λ core load there silent is. record { book = is.book; regions = is.regions; rings = subst (λ (loaded : Option LoadState). IfSome (loaded_rings loaded) IsSoundPair) there is.rings };
+  host = λ core bench there busy is. record { book = is.book; regions = is.regions; rings = is.rings };
+  call = λ core bench there busy is. record { book = is.book; regions = is.regions; rings = is.rings };
+  run = λ core load there silent busy is. record { book = is.book; regions = is.regions; rings = subst (λ (loaded : Option LoadState). IfSome (loaded_rings loaded) IsSoundPair) there is.rings };
   report = report_load;
 }
 
-drive_rung : (core : CoreState) → IsReachedCore core → IsRungCore core → IsRungCore (drive_step core).core
-drive_rung core reached is = record {
+drive_rung : (core : CoreState) → MayDrive core → IsReachedCore core → IsRungCore core → IsRungCore (drive_step core).core
+drive_rung core may reached is = record {
   load = drive_kept IsFitLoad load_parts core is.load;
-  bench = rung_if core.bench (drive_deeds core) (drive_step core).core.bench (drive_lands core reached) is.bench;
+  bench = rung_if core.bench (drive_deeds core) (drive_step core).core.bench (drive_lands core may reached) is.bench;
 }
 
 -- ---- acts
@@ -209,9 +209,9 @@ act_rung core steps asked (Some bench) found fit reached is =
 
 -- ---- what is done under the name of a core
 
--- and that it came there by moves
-record IsReachedRung (core : CoreState) : Type 0 where
-  pub reached : IsReachedCore core
+-- and that it came there by moves, and may go on
+record IsSoundRung (core : CoreState) : Type 0 where
+  pub sound : IsSoundCore core
   pub rung : IsRungCore core
 
 -- what a core has loaded behind a call has sound rings
@@ -220,35 +220,35 @@ load_sound core loaded is (inl same) = subst (λ (now : Option LoadState). IfSom
 load_sound core loaded is (inr (inl none)) = subst (λ (now : Option LoadState). IfSome (loaded_rings now) IsSoundPair) (sym none) tt
 load_sound core loaded is (inr (inr load)) = subst (λ (now : Option LoadState). IfSome (loaded_rings now) IsSoundPair) (sym load.1.1) (loaded_sound core load.0 is.regions load.1.0)
 
-rung_stays : Stays IsReachedRung
+rung_stays : Stays IsSoundRung
 rung_stays = record {
   same = λ core life image loaded same load is. record {
-    reached = reached_stays.same core life image loaded same load is.reached;
+    sound = sound_stays.same core life image loaded same load is.sound;
     rung = record { load = record { book = is.rung.load.book; regions = is.rung.load.regions; rings = load_sound core loaded is.rung.load load }; bench = is.rung.bench };
   };
   started = λ core life image loaded up load is. record {
-    reached = reached_stays.started core life image loaded up load is.reached;
+    sound = sound_stays.started core life image loaded up load is.sound;
     rung = started_rung core is.rung life image loaded (load_sound core loaded is.rung.load load);
   };
   unlinked = λ core life image loaded load is. record {
-    reached = reached_stays.unlinked core life image loaded load is.reached;
+    sound = sound_stays.unlinked core life image loaded load is.sound;
     rung = record { load = record { book = is.rung.load.book; regions = is.rung.load.regions; rings = load_sound core loaded is.rung.load load }; bench = tt };
   };
-  crashed = λ core life stops is. record { reached = reached_stays.crashed core life stops is.reached; rung = crashed_core_rung core is.rung life };
+  crashed = λ core life stops is. record { sound = sound_stays.crashed core life stops is.sound; rung = crashed_core_rung core is.rung life };
   readied = λ core may is. record {
-    reached = reached_stays.readied core may is.reached;
+    sound = sound_stays.readied core may is.sound;
     rung = record { load = record { book = is.rung.load.book; regions = is.rung.load.regions; rings = is.rung.load.rings }; bench = ready_rung core.bench is.rung.bench };
   };
   recovered = λ core found clear may opens is. record {
-    reached = reached_stays.recovered core found clear may opens is.reached;
+    sound = sound_stays.recovered core found clear may opens is.sound;
     rung = record { load = record { book = is.rung.load.book; regions = is.rung.load.regions; rings = loaded_sound core found is.rung.load.regions clear }; bench = again_rung core.bench is.rung.bench };
   };
 }
 
-rung_cores : KeepCores IsFitAct IsReachedRung
+rung_cores : KeepCores IsFitAct IsSoundRung
 rung_cores = record {
   region = λ core region clear is. record {
-    reached = cores_reached.region core region clear is.reached;
+    sound = sound_cores.region core region clear is.sound;
     rung = record {
       load = record {
         book = is.rung.load.book;
@@ -259,18 +259,18 @@ rung_cores = record {
     };
   };
   driver = λ core channel kind is. record {
-    reached = cores_reached.driver core channel kind is.reached;
+    sound = sound_cores.driver core channel kind is.sound;
     rung = record { load = record { book = is.rung.load.book; regions = is.rung.load.regions; rings = is.rung.load.rings }; bench = is.rung.bench };
   };
   lives = rung_stays;
-  drive = λ core is. record { reached = cores_reached.drive core is.reached; rung = drive_rung core is.reached is.rung };
-  act = λ core steps asked fits is. record { reached = cores_reached.act core steps asked fits is.reached; rung = act_rung core steps asked core.bench refl fits is.reached.bench is.rung };
+  drive = λ core up is. record { sound = sound_cores.drive core up is.sound; rung = drive_rung core (may_drive core up is.sound) is.sound.reached is.rung };
+  act = λ core steps asked fits is. record { sound = sound_cores.act core steps asked fits is.sound; rung = act_rung core steps asked core.bench refl fits is.sound.reached.bench is.rung };
 }
 
-pub core_rung : (images : List ImageState) (answer : Answer) (on : NamedCoreState) (steps : ℕ) → IsReachedCore on.core → IsRungCore on.core → (is_quiet : Bool) (wanted : NamedAct (List ℕ))
+pub core_rung : (images : List ImageState) (answer : Answer) (on : NamedCoreState) (steps : ℕ) → IsSoundCore on.core → IsRungCore on.core → (is_quiet : Bool) (wanted : NamedAct (List ℕ))
     → FitsNamed IsFitAct wanted → IsRungCore (core_effect images answer is_quiet on steps wanted).core
-core_rung images answer on steps reached is is_quiet wanted fits =
-    (core_kept IsFitAct IsReachedRung rung_cores images answer is_quiet on steps wanted fits (record { reached = reached; rung = is })).rung
+core_rung images answer on steps sound is is_quiet wanted fits =
+    (core_kept IsFitAct IsSoundRung rung_cores images answer is_quiet on steps wanted fits (record { sound = sound; rung = is })).rung
 
 -- a core that a script makes
 pub new_core_rung : (set : RegionSet) (book : ℕ) → IsBook book → IsRungCore (new_core (regions_of set) [] book)

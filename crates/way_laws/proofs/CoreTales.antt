@@ -1,5 +1,5 @@
 -- What is done under the name of a core keeps the tale of its link.
-use Rattle.std.proofs.Common.{◌≡◌, ℕ, [], zero, suc, Bool, true, false, cond, List, Option, Some, None, IfSome, option_map, Result, Ok, Err, refl, sym, subst}
+use Rattle.std.proofs.Common.{◌≡◌, ℕ, [], Bool, true, false, cond, List, Option, Some, None, IfSome, option_map, Result, Ok, Err, refl, sym, subst}
 use Rattle.std.proofs.lemmas.Bool.{cond_both}
 use Rattle.rp_base.specs.declared.kinds.End.{End}
 use Rattle.rp_base.specs.declared.kinds.End.TheVariants as side
@@ -42,7 +42,7 @@ use Rattle.core_actors.specs.Actors.{driver_names}
 use Rattle.core_actors.specs.ActorEnds.{actors_after_end}
 use Rattle.crash_recover.specs.Drives.{drive_step}
 use Rattle.core_laws.specs.BenchMoves.{IsReachedBench, IsReachedCore}
-use Rattle.core_laws.proofs.CoreMoves.{core_driven}
+use Rattle.core_laws.proofs.DriveWalks.{both_known}
 use Rattle.link_commands.specs.declared.acts.CoreAct.{CoreAct}
 use Rattle.link_commands.specs.declared.acts.CoreAct.TheVariants as act
 use Rattle.link_commands.specs.declared.acts.NamedAct.{NamedAct}
@@ -59,14 +59,14 @@ use Rattle.command_run.specs.NamedImages.{ImageState}
 use Rattle.command_run.specs.Stores.{Answer}
 use Rattle.run_laws.specs.Drives.{after_steps, drive_made}
 use Rattle.run_laws.proofs.CoreWalks.{FitsNamed}
-use Rattle.run_laws.proofs.ScriptDrives.{drive_as}
+use Rattle.run_laws.proofs.CoresReady.{IsSoundCore, may_drive, sound_cores}
+use Rattle.run_laws.proofs.ScriptDrives.{drive_as, drive_while_up}
 use Rattle.act_laws.specs.Accounts.{Account}
 use Rattle.way_laws.specs.CoreAccounts.{begun_account, core_account_after, core_act_deeds, deed_account, drive_account, left_account, life_account, ready_if, recovery_account, started_account, steps_account, unless_some}
 use Rattle.act_laws.specs.CoreDeeds.{drive_deeds}
 use Rattle.act_laws.specs.Deeds.{Deeds, no_deeds}
 use Rattle.act_laws.proofs.CalmDeeds.{IsCalm, Open, Silent, act_open, drive_calm, ready_open, reported_none}
 use Rattle.act_laws.proofs.CoreLands.{LandsIf, drive_lands, ready_lands, report_lands}
-use Rattle.act_laws.proofs.Lands.{both_if}
 use Rattle.act_laws.proofs.ReachedActs.{deeds_land}
 use Rattle.act_laws.proofs.Tales.{IsTale, deeds_kept, new_tale}
 
@@ -210,21 +210,25 @@ module _ (end : End) (core : CoreState) (account : Option Account) (is : TaleIf 
 
 -- ---- drives
 
-steps_tale : (end : End) (made : ℕ) (core : CoreState) (account : Option Account) → IsReachedCore core → TaleIf end core.bench account → TaleIf end (after_steps made core).bench (steps_account end made core account)
+steps_tale : (end : End) (count : ℕ) (core : CoreState) (steps : ℕ) → is_up core.life.state ≡ true → (account : Option Account) → IsSoundCore core → TaleIf end core.bench account
+    → TaleIf end (after_steps (drive_made count core steps) core).bench (drive_account end count core steps account)
 unfolding steps_account
-steps_tale end zero core account reached is = is
-steps_tale end (suc more) core account reached is =
-    steps_tale end more (drive_step core).core (deed_account end core.bench (drive_deeds core) account) (core_driven core reached)
-    (deeds_if end core.bench account (drive_deeds core) (drive_step core).core.bench is (drive_calm end core) (drive_lands core reached))
+steps_tale end =
+    drive_while_up (λ made core. (account : Option Account) → IsSoundCore core → TaleIf end core.bench account → TaleIf end (after_steps made core).bench (steps_account end made core account))
+    (λ core account sound is. is)
+    (λ more core up later account sound is.
+    later (deed_account end core.bench (drive_deeds core) account) (sound_cores.drive core up sound)
+    (deeds_if end core.bench account (drive_deeds core) (drive_step core).core.bench is (drive_calm end core) (drive_lands core (may_drive core up sound) sound.reached)))
 
-drive_tale : (end : End) (name : List ℕ) (is_quiet : Bool) (core : CoreState) (steps count : ℕ) (account : Option Account) → IsReachedCore core → TaleIf end core.bench account
+drive_tale : (end : End) (name : List ℕ) (is_quiet : Bool) (core : CoreState) (steps count : ℕ) (account : Option Account) → IsSoundCore core → TaleIf end core.bench account
     → TaleIf end (drive_effect name is_quiet core steps count).core.bench (cond (is_up core.life.state) (drive_account end count core steps account) account)
 unfolding drive_effect
-drive_tale end name is_quiet core steps count account reached is =
+drive_tale end name is_quiet core steps count account sound is =
     let behind = drive_account end count core steps account in
-    let left = steps_tale end (drive_made count core steps) core account reached is in
-    both_if (is_up core.life.state) (λ (effect : CoreEffect) (behind : Option Account). TaleIf end effect.core.bench behind) (drive_steps count name is_quiet core steps) (core_tells core steps (event.NotRunning name))
-    behind account (drive_as name is_quiet (λ effect. TaleIf end effect.core.bench behind) count core steps left (λ _ _ _. left)) is
+    both_known (is_up core.life.state) (λ (effect : CoreEffect) (behind : Option Account). TaleIf end effect.core.bench behind) (drive_steps count name is_quiet core steps) (core_tells core steps (event.NotRunning name))
+    behind account
+    (λ up. let left = steps_tale end count core steps up account sound is in drive_as name is_quiet (λ effect. TaleIf end effect.core.bench behind) count core steps left (λ _ _ _. left))
+    (λ _. is)
 
 -- ---- acts on the link of a core
 
@@ -294,17 +298,17 @@ module _ (end : End) (images : List ImageState) (answer : Answer) (on : NamedCor
   unfolding crash_effect
   crash_on kind = deeds_if end on.core.bench account _ (report_of (may_step steps) on.core).core.bench is (Silent (reported_none end (report_of (may_step steps) on.core).answer on.core.bench)) (report_lands (may_step steps) on.core)
 
-  core_act_tale : (is_quiet : Bool) (asked : CoreAct) → IsReachedCore on.core → TaleIf end (core_act_effect images answer is_quiet on steps asked).core.bench (life_account end images answer on steps asked account)
+  core_act_tale : (is_quiet : Bool) (asked : CoreAct) → IsSoundCore on.core → TaleIf end (core_act_effect images answer is_quiet on steps asked).core.bench (life_account end images answer on steps asked account)
   unfolding core_act_effect
-  core_act_tale is_quiet (act.Region region) reached = region_same region
-  core_act_tale is_quiet (act.Driver channel kind) reached = driver_same channel kind
-  core_act_tale is_quiet (act.Start start) reached = start_on start
-  core_act_tale is_quiet act.Shutdown reached = shutdown_on
-  core_act_tale is_quiet act.Detach reached = detach_on
-  core_act_tale is_quiet (act.Show shown) reached = is
-  core_act_tale is_quiet (act.Crash kind) reached = crash_on kind
-  core_act_tale is_quiet (act.Recovery set) reached = is
-  core_act_tale is_quiet (act.Drive count) reached = drive_tale end on.name is_quiet on.core steps count account reached is
+  core_act_tale is_quiet (act.Region region) sound = region_same region
+  core_act_tale is_quiet (act.Driver channel kind) sound = driver_same channel kind
+  core_act_tale is_quiet (act.Start start) sound = start_on start
+  core_act_tale is_quiet act.Shutdown sound = shutdown_on
+  core_act_tale is_quiet act.Detach sound = detach_on
+  core_act_tale is_quiet (act.Show shown) sound = is
+  core_act_tale is_quiet (act.Crash kind) sound = crash_on kind
+  core_act_tale is_quiet (act.Recovery set) sound = is
+  core_act_tale is_quiet (act.Drive count) sound = drive_tale end on.name is_quiet on.core steps count account sound is
 
   linked_tale : (asked : LinkAct (List ℕ)) → IsFitAct asked → IsReachedCore on.core
       → TaleIf end (core_link_effect on.name on.core steps asked on.core.bench).core.bench (deed_account end on.core.bench (core_act_deeds on.core on.core.bench steps asked) account)
@@ -313,11 +317,11 @@ module _ (end : End) (images : List ImageState) (answer : Answer) (on : NamedCor
       (deeds_if end on.core.bench account _ (core_act_on on.core steps asked on.core.bench).core.bench is (act_calm end on.core steps asked on.core.bench)
       (act_lands_if on.core steps asked on.core.bench refl fit reached.bench))
 
-  pub core_tale : (is_quiet : Bool) (wanted : NamedAct (List ℕ)) → FitsNamed IsFitAct wanted → IsReachedCore on.core
+  pub core_tale : (is_quiet : Bool) (wanted : NamedAct (List ℕ)) → FitsNamed IsFitAct wanted → IsSoundCore on.core
       → TaleIf end (core_effect images answer is_quiet on steps wanted).core.bench (core_account_after end images answer on steps wanted account)
   unfolding core_effect
-  core_tale is_quiet (under.Make made) fits reached = is
-  core_tale is_quiet (under.Link asked) fits reached = linked_tale asked fits reached
-  core_tale is_quiet (under.Manage managed) fits reached = is
-  core_tale is_quiet (under.Show shown) fits reached = is
-  core_tale is_quiet (under.Core asked) fits reached = core_act_tale is_quiet asked reached
+  core_tale is_quiet (under.Make made) fits sound = is
+  core_tale is_quiet (under.Link asked) fits sound = linked_tale asked fits sound.reached
+  core_tale is_quiet (under.Manage managed) fits sound = is
+  core_tale is_quiet (under.Show shown) fits sound = is
+  core_tale is_quiet (under.Core asked) fits sound = core_act_tale is_quiet asked sound

@@ -9,18 +9,17 @@ use Rattle.lane_laws.specs.Handings.{Handing}
 use Rattle.journal.specs.declared.events.Event.{Event}
 use Rattle.journal.specs.declared.events.Event.TheVariants as event
 use Rattle.link_bench.specs.Benches.{BenchState, link_in}
-use Rattle.core_laws.specs.BenchMoves.{IsReachedCore}
-use Rattle.core_laws.proofs.CoreMoves.{core_driven}
+use Rattle.core_laws.proofs.DriveWalks.{both_known}
 use Rattle.crash_recover.specs.Cores.{CoreState}
 use Rattle.crash_recover.specs.Drives.{drive_step}
 use Rattle.command_run.specs.CoreDrives.{drive_effect, drive_steps, step_events}
 use Rattle.command_run.specs.CoreEffects.{CoreEffect, core_tells}
 use Rattle.run_laws.specs.Drives.{after_steps, drive_made, steps_events}
-use Rattle.run_laws.proofs.ScriptDrives.{drive_told, last_is}
+use Rattle.run_laws.proofs.CoresReady.{IsSoundCore, may_drive, sound_cores}
+use Rattle.run_laws.proofs.ScriptDrives.{drive_told, drive_while_up, last_is}
 use Rattle.act_laws.specs.Accounts.{Account}
 use Rattle.act_laws.specs.CoreDeeds.{drive_deeds}
 use Rattle.act_laws.specs.Deeds.{Deeds}
-use Rattle.act_laws.proofs.Lands.{both_if}
 use Rattle.way_laws.specs.CoreAccounts.{deed_account, drive_account, drive_takes, steps_account, steps_takes}
 use Rattle.way_laws.specs.WordedTakes.{AreLinesAmong, AreLinesOfTakes, ComesFromOpening, IsLineAmong, IsLineOfTake, is_take_line}
 use Rattle.way_laws.proofs.DrivenWords.{drive_comes, none_driven}
@@ -65,43 +64,43 @@ module _ (name : List ℕ) where
 
   -- ---- a drive
 
-  told_among : (made : ℕ) (is_quiet : Bool) (core : CoreState) → IsReachedCore core → IfSome core.bench (λ (bench : BenchState). ComesFromOpening (link_in bench))
-      → AreLinesAmong (steps_takes made core) name (steps_events made name is_quiet core)
-  unfolding steps_events steps_takes
-  told_among zero is_quiet core reached comes = All-nil (IsAmong (λ end. []))
-  told_among (suc more) is_quiet core reached comes =
-      let next = (drive_step core).core in
-      let takes = (drive_deeds core).takes in
-      let later = steps_takes more next in
-      let first = step_events name is_quiet (drive_step core) in
-      let rest = steps_events more name is_quiet next in
-      All-append (IsAmong (both takes later)) first rest
-      (first_among takes later first (drive_lines name is_quiet core reached comes))
-      (later_among takes later rest (told_among more is_quiet next (core_driven core reached) (drive_comes core reached comes)))
+  module _ (is_quiet : Bool) where
+    told_among : (count : ℕ) (core : CoreState) (steps : ℕ) → is_up core.life.state ≡ true → IsSoundCore core → IfSome core.bench (λ (bench : BenchState). ComesFromOpening (link_in bench))
+        → AreLinesAmong (drive_takes count core steps) name (steps_events (drive_made count core steps) name is_quiet core)
+    unfolding steps_events steps_takes
+    told_among =
+        drive_while_up
+        (λ made core. IsSoundCore core → IfSome core.bench (λ (bench : BenchState). ComesFromOpening (link_in bench)) → AreLinesAmong (steps_takes made core) name (steps_events made name is_quiet core))
+        (λ core sound comes. All-nil (IsAmong (λ end. [])))
+        (λ more core up later sound comes.
+        let next = (drive_step core).core in
+        let may = may_drive core up sound in
+        let takes = (drive_deeds core).takes in
+        let first = step_events name is_quiet (drive_step core) in
+        let rest = steps_events more name is_quiet next in
+        All-append (IsAmong (both takes (steps_takes more next))) first rest
+        (first_among takes (steps_takes more next) first (drive_lines name is_quiet core may sound.reached comes))
+        (later_among takes (steps_takes more next) rest (later (sound_cores.drive core up sound) (drive_comes core may sound.reached comes))))
 
-  steps_among : (count : ℕ) (is_quiet : Bool) (core : CoreState) (steps : ℕ) → IsReachedCore core → IfSome core.bench (λ (bench : BenchState). ComesFromOpening (link_in bench))
-      → AreLinesAmong (drive_takes count core steps) name (drive_steps count name is_quiet core steps).events
-  steps_among count is_quiet core steps reached comes =
-      let made = drive_made count core steps in
-      let Q = IsAmong (drive_takes count core steps) in
-      drive_told name is_quiet Q count core steps (told_among made is_quiet core reached comes)
-      (last_is name Q (after_steps made core) (λ is. absurd (true≢false (sym is))) (λ is. absurd (true≢false (sym is))) (λ is. absurd (true≢false (sym is))))
+    module _ (core : CoreState) (steps count : ℕ) (sound : IsSoundCore core) (comes : IfSome core.bench (λ (bench : BenchState). ComesFromOpening (link_in bench))) where
+      steps_among : is_up core.life.state ≡ true → AreLinesAmong (drive_takes count core steps) name (drive_steps count name is_quiet core steps).events
+      steps_among up =
+          let Q = IsAmong (drive_takes count core steps) in
+          drive_told name is_quiet Q count core steps (told_among count core steps up sound comes)
+          (last_is name Q (after_steps (drive_made count core steps) core) (λ is. absurd (true≢false (sym is))) (λ is. absurd (true≢false (sym is))) (λ is. absurd (true≢false (sym is))))
 
-  pub drive_among : (is_quiet : Bool) (core : CoreState) (steps count : ℕ) → IsReachedCore core → IfSome core.bench (λ (bench : BenchState). ComesFromOpening (link_in bench))
-      → AreLinesAmong (drive_takes count core steps) name (drive_effect name is_quiet core steps count).events
-  unfolding drive_effect
-  drive_among is_quiet core steps count reached comes =
-      cond_both (is_up core.life.state) (drive_steps count name is_quiet core steps) (core_tells core steps (event.NotRunning name)) (λ (effect : CoreEffect). AreLinesAmong (drive_takes count core steps) name effect.events)
-      (λ _. steps_among count is_quiet core steps reached comes) (λ _. one_among (drive_takes count core steps) (event.NotRunning name) refl)
+      pub drive_among : AreLinesAmong (drive_takes count core steps) name (drive_effect name is_quiet core steps count).events
+      unfolding drive_effect
+      drive_among =
+          cond_both (is_up core.life.state) (drive_steps count name is_quiet core steps) (core_tells core steps (event.NotRunning name)) (λ (effect : CoreEffect). AreLinesAmong (drive_takes count core steps) name effect.events)
+          steps_among (λ _. one_among (drive_takes count core steps) (event.NotRunning name) refl)
 
-  -- the same, where a drive of a core that is not up tells of no take
-  pub drive_up_among : (is_quiet : Bool) (core : CoreState) (steps count : ℕ) → IsReachedCore core → IfSome core.bench (λ (bench : BenchState). ComesFromOpening (link_in bench))
-      → AreLinesAmong (cond (is_up core.life.state) (drive_takes count core steps) (λ end. [])) name (drive_effect name is_quiet core steps count).events
-  unfolding drive_effect
-  drive_up_among is_quiet core steps count reached comes =
-      both_if (is_up core.life.state) (λ (effect : CoreEffect) (takes : End → List Handing). AreLinesAmong takes name effect.events) (drive_steps count name is_quiet core steps) (core_tells core steps (event.NotRunning name))
-      (drive_takes count core steps) (λ end. [])
-      (steps_among count is_quiet core steps reached comes) (one_among (λ end. []) (event.NotRunning name) refl)
+      -- the same, where a drive of a core that is not up tells of no take
+      pub drive_up_among : AreLinesAmong (cond (is_up core.life.state) (drive_takes count core steps) (λ end. [])) name (drive_effect name is_quiet core steps count).events
+      unfolding drive_effect
+      drive_up_among =
+          both_known (is_up core.life.state) (λ (effect : CoreEffect) (takes : End → List Handing). AreLinesAmong takes name effect.events) (drive_steps count name is_quiet core steps) (core_tells core steps (event.NotRunning name))
+          (drive_takes count core steps) (λ end. []) steps_among (λ _. one_among (λ end. []) (event.NotRunning name) refl)
 
 -- ---- the account
 
@@ -120,13 +119,13 @@ module _ (end : End) where
   deeds_then_add (Some bench) deeds None after later none is = is
   deeds_then_add (Some bench) deeds (Some account) after later none is = is ∙ ap (λ (l : List Handing). Some l) (append_assoc account.told (deeds.takes end) later)
 
-  steps_add : (made : ℕ) (core : CoreState) (account : Option Account) → IsReachedCore core → Adds account (steps_account end made core account) (steps_takes made core end)
+  steps_add : (made : ℕ) (core : CoreState) (account : Option Account) → Adds account (steps_account end made core account) (steps_takes made core end)
   unfolding steps_account steps_takes
-  steps_add zero core account reached = adds_none account
-  steps_add (suc more) core account reached =
+  steps_add zero core account = adds_none account
+  steps_add (suc more) core account =
       let next = (drive_step core).core in
       let behind = deed_account end core.bench (drive_deeds core) account in
-      deeds_then_add core.bench (drive_deeds core) account (steps_account end more next behind) (steps_takes more next end) (none_driven core end reached) (steps_add more next behind (core_driven core reached))
+      deeds_then_add core.bench (drive_deeds core) account (steps_account end more next behind) (steps_takes more next end) (none_driven core end) (steps_add more next behind)
 
-  pub drive_adds : (count : ℕ) (core : CoreState) (steps : ℕ) (account : Option Account) → IsReachedCore core → Adds account (drive_account end count core steps account) (drive_takes count core steps end)
-  drive_adds count core steps account reached = steps_add (drive_made count core steps) core account reached
+  pub drive_adds : (count : ℕ) (core : CoreState) (steps : ℕ) (account : Option Account) → Adds account (drive_account end count core steps account) (drive_takes count core steps end)
+  drive_adds count core steps account = steps_add (drive_made count core steps) core account

@@ -1,6 +1,5 @@
 -- What a step of a core's actors tells of takes is by the call that it ended.
-use Rattle.std.proofs.Common.{◌≡◌, ℕ, Bool, true, false, Option, Some, None, is_some, refl}
-use Rattle.std.specs.Prelude.{if◌then◌else◌}
+use Rattle.std.proofs.Common.{◌≡◌, ℕ, true, Option, Some, None, is_some, refl}
 use Rattle.rp_base.specs.declared.kinds.End.{End}
 use Rattle.lane_model.specs.declared.calls.Wish.{Wish}
 use Rattle.remote_core.specs.declared.workers.Work.{Work}
@@ -17,13 +16,8 @@ use Rattle.crash_recover.specs.Drives.{DriveStep, after_record, core_with_report
 use Rattle.core_laws.proofs.DriveWalks.{HoldOfParts, drive_walk}
 use Rattle.act_laws.specs.CoreDeeds.{actor_link_deeds, begun_deeds, drive_deeds, driven_takes, link_deeds, record_deeds}
 use Rattle.act_laws.proofs.CalmDeeds.{reported_none}
+use Rattle.act_laws.proofs.Lands.{both_if}
 use Rattle.act_laws.specs.Deeds.{Deeds, advance_deeds, no_deeds, reach_takes}
-
--- two choices by one test
-both : {A B : Type 0} (P : A → B → Type 0) (test : Bool) (one other : A) (first second : B) → P one first → P other second
-    → P (if test then one else other) (if test then first else second)
-both P true one other first second is none = is
-both P false one other first second is none = none
 
 module _ (end : End) where
   -- ---- a step on the link
@@ -47,7 +41,7 @@ module _ (end : End) where
   link_told : (bench : BenchState) (caller : ℕ) (wanted : Wish) → IsWalkTold caller (link_step bench caller wanted) (link_deeds bench caller wanted)
   link_told bench caller wanted =
       let walk = start_walk bench 0 caller wanted in
-      both (IsWalkTold caller) (is_in_call bench caller) (advance_walk bench 0 0 caller) walk (advance_deeds bench 0 0 caller (begun_call_of bench caller)) (begun_deeds bench caller wanted)
+      both_if (is_in_call bench caller) (IsWalkTold caller) (advance_walk bench 0 0 caller) walk (advance_deeds bench 0 0 caller (begun_call_of bench caller)) (begun_deeds bench caller wanted)
       (advance_told bench caller (begun_call_of bench caller)) (reach_told walk.bench caller walk.reach)
 
   -- ---- a step of an actor
@@ -63,9 +57,9 @@ module _ (end : End) where
   told_parts = record {
     rest = λ core is. refl;
     turn = λ who core is. tt;
-    host = λ core bench there may is. link_told bench 0 (first_or_take core.actors.host_calls);
-    call = λ core bench there may is. link_told bench 1 (first_or_take core.actors.worker_calls);
-    work = λ core load there silent is.
+    host = λ core bench there busy is. link_told bench 0 (first_or_take core.actors.host_calls);
+    call = λ core bench there busy is. link_told bench 1 (first_or_take core.actors.worker_calls);
+    work = λ core load there silent busy is.
         let map = placed_map core.regions load in work_told (after_record core load map) (work_of load.memory map (is_some core.bench) core.actors.worker);
   }
 

@@ -1,5 +1,5 @@
 -- A step of a core's actors that ended a call as a take tells of one handing, whose line is that of the call.
-use Rattle.std.proofs.Common.{◌≡◌, ℕ, List, [], Option, Some, None, IfSome, is_some, refl, sym, ap, subst, ◌∙◌}
+use Rattle.std.proofs.Common.{◌≡◌, ℕ, true, List, [], Option, Some, None, IfSome, is_some, option_map, refl, sym, ap, subst, ◌∙◌}
 use Rattle.std.specs.Option.{IsSomeAnd}
 use Rattle.std.proofs.lemmas.Bool.{cond_both}
 use Rattle.rp_base.specs.declared.kinds.End.{End}
@@ -16,16 +16,19 @@ use Rattle.remote_core.specs.declared.workers.Work.TheVariants as work
 use Rattle.remote_core.specs.Works.{work_of}
 use Rattle.link_bench.specs.declared.benches.Reach.{Reach}
 use Rattle.link_bench.specs.declared.benches.Reach.TheVariants as reach
-use Rattle.link_bench.specs.Benches.{BenchState, BenchWalk, IsSendable, advance_walk, begun_call_of, is_in_call, link_in, start_walk}
-use Rattle.link_bench.proofs.Begun.{begin_may}
+use Rattle.link_bench.specs.Benches.{BenchState, BenchWalk, advance_walk, begun_call_of, is_in_call, link_in, start_walk}
+use Rattle.link_bench.specs.BenchEnds.{crashed_bench}
 use Rattle.core_actors.specs.declared.progress.Driven.{Driven}
 use Rattle.core_actors.specs.declared.progress.Driven.TheVariants as driven
 use Rattle.core_actors.specs.ActorSteps.{drive_of_reach, drive_of_work, first_or_take, link_step}
+use Rattle.core_actors.proofs.ReadyActors.{MayBegin}
 use Rattle.crash_recover.specs.Cores.{CoreState}
 use Rattle.crash_recover.specs.Drives.{DriveStep, after_record, drive_step, placed_map, step_with_report}
 use Rattle.core_laws.specs.BenchMoves.{IsReachedBench, IsReachedCore}
-use Rattle.core_laws.proofs.CoreMoves.{first_sendable, reached_parts}
-use Rattle.core_laws.proofs.DriveWalks.{HoldOfSteps, MayGoOn, of_link, step_walk}
+use Rattle.core_laws.specs.DriveParts.{MayDrive}
+use Rattle.core_laws.proofs.CoreMoves.{StandsReady, host_may, link_reached, turned_stands, worker_may}
+use Rattle.core_laws.proofs.DriveWalks.{AreKeptParts, HoldOfSteps, drive_kept, of_link, step_walk}
+use Rattle.core_laws.proofs.Outcomes.{report_left}
 use Rattle.act_laws.specs.CoreDeeds.{drive_deeds, driven_takes}
 use Rattle.act_laws.specs.Deeds.{Deeds}
 use Rattle.act_laws.proofs.ActLands.{LandsAt}
@@ -56,19 +59,14 @@ reach_once bench caller (reach.At step) is = tt
 reach_once bench caller (reach.Ended came) is = is
 reach_once bench caller reach.Limit is = tt
 
--- a link of a core that is reached and comes by a way from an opening
-record IsKnown (bench : BenchState) : Type 0 where
-  pub reached : IsReachedBench bench
-  pub comes : ComesFromOpening (link_in bench)
-
-link_once : (bench : BenchState) (caller : ℕ) (calls : List Wish) → MayGoOn bench caller calls → IsKnown bench → IsSendable (first_or_take calls) → WalkOnce caller (link_step bench caller (first_or_take calls))
-link_once bench caller calls may known sendable =
+link_once : (bench : BenchState) (caller : ℕ) (calls : List Wish) → MayBegin bench caller calls → IsReachedBench bench → ComesFromOpening (link_in bench) → WalkOnce caller (link_step bench caller (first_or_take calls))
+link_once bench caller calls may reached comes =
     let wanted = first_or_take calls in
     let advanced = advance_walk bench 0 0 caller in
     let started = start_walk bench 0 caller wanted in
     cond_both (is_in_call bench caller) advanced started (WalkOnce caller)
-    (λ in_call. reach_once advanced.bench caller advanced.reach (advance_once bench known.comes 0 0 caller (begun_call_of bench caller) ((may_act bench known.reached).go caller in_call)))
-    (λ none. reach_once started.bench caller started.reach (begin_once bench known.comes 0 0 caller wanted (begin_may bench caller wanted sendable (may none))))
+    (λ in_call. reach_once advanced.bench caller advanced.reach (advance_once bench comes 0 0 caller (begun_call_of bench caller) ((may_act bench reached).go caller in_call)))
+    (λ none. reach_once started.bench caller started.reach (begin_once bench comes 0 0 caller wanted (may none)))
 
 -- ---- a step of an actor
 
@@ -79,22 +77,21 @@ work_once core work.Halted = tt
 work_once core (work.Crash kind) = tt
 work_once core (work.Fault why) = tt
 
-once_parts : HoldOfSteps (λ (core : CoreState). IsReachedCore core × IfSome core.bench IsKnown) StepOnce
+abbrev Comes : BenchState → Type 0
+Comes bench = ComesFromOpening (link_in bench)
+
+once_parts : HoldOfSteps (λ (core : CoreState). StandsReady core × IfSome core.bench Comes) StepOnce
 once_parts = record {
   rest = λ core is. tt;
-  turn = λ who core is. (reached_parts.turn who core is.0, is.1);
-  host = λ core bench there may is. link_once bench 0 core.actors.host_calls may (of_link IsKnown core bench there is.1) (first_sendable core.actors.host_calls is.0.calls.host);
-  call = λ core bench there may is. link_once bench 1 core.actors.worker_calls may (of_link IsKnown core bench there is.1) (first_sendable core.actors.worker_calls is.0.calls.worker);
-  work = λ core load there silent is.
+  turn = λ who core is. (turned_stands who core is.0, is.1);
+  host = λ core bench there busy is. link_once bench 0 core.actors.host_calls (host_may core bench there is.0) (link_reached core bench there is.0) (of_link Comes core bench there is.1);
+  call = λ core bench there busy is. link_once bench 1 core.actors.worker_calls (worker_may core bench there is.0) (link_reached core bench there is.0) (of_link Comes core bench there is.1);
+  work = λ core load there silent busy is.
       let map = placed_map core.regions load in work_once (after_record core load map) (work_of load.memory map (is_some core.bench) core.actors.worker);
 }
 
-known_if : (found : Option BenchState) → IfSome found IsReachedBench → IfSome found (λ (bench : BenchState). ComesFromOpening (link_in bench)) → IfSome found IsKnown
-known_if None reached comes = tt
-known_if (Some bench) reached comes = record { reached = reached; comes = comes }
-
-pub drive_once : (core : CoreState) → IsReachedCore core → IfSome core.bench (λ (bench : BenchState). ComesFromOpening (link_in bench)) → StepOnce (drive_step core)
-drive_once core is comes = step_walk _ StepOnce once_parts core (is, known_if core.bench is.bench comes)
+pub drive_once : (core : CoreState) → MayDrive core → IsReachedCore core → IfSome core.bench (λ (bench : BenchState). ComesFromOpening (link_in bench)) → StepOnce (drive_step core)
+drive_once core may reached comes = step_walk _ StepOnce once_parts core (record { may = may; reached = reached }, comes)
 
 -- ---- what it tells
 
@@ -103,12 +100,12 @@ worded_at : (takes : End → List Handing) (caller number : ℕ) (judged : Verdi
 worded_at takes caller number judged None one tells = absurd one
 worded_at takes caller number judged (Some bench) one tells = once_worded takes (link_in bench) caller number judged one tells
 
-pub drive_worded : (core : CoreState) → IsReachedCore core → IfSome core.bench (λ (bench : BenchState). ComesFromOpening (link_in bench)) → (caller number : ℕ) (judged : Verdict)
+pub drive_worded : (core : CoreState) → MayDrive core → IsReachedCore core → IfSome core.bench (λ (bench : BenchState). ComesFromOpening (link_in bench)) → (caller number : ℕ) (judged : Verdict)
     → (drive_step core).driven ≡ driven.Ended caller (ended.Took number judged)
     → IsSomeAnd (drive_step core).core.bench (λ (left : BenchState). IsWordedTake (drive_deeds core).takes (link_in left) caller number judged)
-drive_worded core reached comes caller number judged is =
+drive_worded core may reached comes caller number judged is =
     let left = (drive_step core).core.bench in
-    worded_at (drive_deeds core).takes caller number judged left (subst (λ (came : Driven). DrivenTakesOne came left) is (drive_once core reached comes))
+    worded_at (drive_deeds core).takes caller number judged left (subst (λ (came : Driven). DrivenTakesOne came left) is (drive_once core may reached comes))
     (λ end. subst (λ (came : Driven). (drive_deeds core).takes end ≡ driven_takes came left end) is (drive_told end core))
 
 -- ---- the link that it leaves
@@ -135,15 +132,19 @@ comes_if (Some bench) deeds None lands comes = absurd lands
 comes_if (Some bench) deeds (Some left) lands comes = comes_on bench left deeds lands comes
 
 -- a step of the actors leaves a link that comes by a way from an opening
-pub drive_comes : (core : CoreState) → IsReachedCore core → IfSome core.bench (λ (bench : BenchState). ComesFromOpening (link_in bench))
+pub drive_comes : (core : CoreState) → MayDrive core → IsReachedCore core → IfSome core.bench (λ (bench : BenchState). ComesFromOpening (link_in bench))
     → IfSome (drive_step core).core.bench (λ (bench : BenchState). ComesFromOpening (link_in bench))
-drive_comes core reached comes = comes_if core.bench (drive_deeds core) (drive_step core).core.bench (drive_lands core reached) comes
+drive_comes core may reached comes = comes_if core.bench (drive_deeds core) (drive_step core).core.bench (drive_lands core may reached) comes
 
--- where a core has no link, it tells of no take
-none_left : (found : Option BenchState) (deeds : Deeds) (left : Option BenchState) → LandsIf found deeds left → found ≡ None → left ≡ None
-none_left None deeds None lands none = refl
-none_left None deeds (Some left) lands none = absurd lands
-none_left (Some bench) deeds left lands none = absurd (cc)
+-- where a core has no link a step leaves none, and tells of no take
+none_parts : AreKeptParts (λ (core : CoreState). core.bench ≡ None)
+none_parts = record {
+  turn = λ who core is. is;
+  host = λ core bench there busy is. absurd (cc);
+  call = λ core bench there busy is. absurd (cc);
+  run = λ core load there silent busy is. is;
+  report = λ core is. report_left (λ (core : CoreState). core.bench ≡ None) true core is (λ life stops. ap (option_map crashed_bench) is);
+}
 
 none_told : (came : Driven) (end : End) → driven_takes came None end ≡ []
 none_told driven.Idle end = refl
@@ -152,8 +153,8 @@ none_told (driven.Ended caller came) end = refl
 none_told (driven.Worker why closed) end = refl
 none_told (driven.Crashed why closed) end = refl
 
-pub none_driven : (core : CoreState) (end : End) → IsReachedCore core → core.bench ≡ None → (drive_deeds core).takes end ≡ []
-none_driven core end reached none =
+pub none_driven : (core : CoreState) (end : End) → core.bench ≡ None → (drive_deeds core).takes end ≡ []
+none_driven core end none =
     drive_told end core
-    ∙ ap (λ (left : Option BenchState). driven_takes (drive_step core).driven left end) (none_left core.bench (drive_deeds core) (drive_step core).core.bench (drive_lands core reached) none)
+    ∙ ap (λ (left : Option BenchState). driven_takes (drive_step core).driven left end) (drive_kept (λ (core : CoreState). core.bench ≡ None) none_parts core none)
     ∙ none_told (drive_step core).driven end

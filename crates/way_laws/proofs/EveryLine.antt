@@ -29,7 +29,7 @@ use Rattle.way_laws.proofs.CoreLines.{core_none}
 use Rattle.way_laws.proofs.DriveLines.{drive_up_among}
 use Rattle.way_laws.proofs.OtherLines.{no_takes, others_none, unnamed_none}
 use Rattle.way_laws.proofs.RunCoreTales.{cores_come}
-use Rattle.way_laws.proofs.RunLines.{core_lines, core_tells, link_lines, none_located, reached}
+use Rattle.way_laws.proofs.RunLines.{core_lines, core_tells, link_lines, none_located, sound}
 
 -- where no event is the line of a take, each that is one has what is wanted
 none_are : (P : Event → Type 0) (events : List Event) → TellNoTakes events → All (λ (event : Event). is_take_line event ≡ true → P event) events
@@ -91,7 +91,7 @@ module _ (told : Told) (commands : List Command) (runs : AreRunnable commands) (
   unfolding core_effect core_act_effect
   drive_are place count on found does =
       subst (AreLinesAmong (core_takes on run.steps (under.Core (core.Drive count))) on.name) (sym (core_tells answer run place on found asked (under.Core (core.Drive count)) does))
-      (drive_up_among on.name run.objects.is_quiet on.core run.steps count (reached told commands runs answer asked may place on found) (cores_come told commands place on runs found))
+      (drive_up_among on.name run.objects.is_quiet on.core run.steps count (sound told commands runs answer asked may place on found) (cores_come told commands place on runs found))
 
   -- what is done under the name of a core
   pub core_are : (place : ℕ) (wanted : NamedAct (List ℕ)) (on : NamedCoreState) → slice_get run.objects.cores place ≡ Some on → done_on_core run place done ≡ Some wanted

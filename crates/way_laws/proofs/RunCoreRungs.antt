@@ -7,17 +7,15 @@ use Rattle.script_lang.specs.declared.commands.Command.{Command}
 use Rattle.script_lang.specs.Runnable.{AreRunnable, IsRunnable}
 use Rattle.link_bench.specs.Acts.{IsFitAct}
 use Rattle.link_bench.specs.Benches.{BenchState}
-use Rattle.core_laws.specs.BenchMoves.{IsReachedBench, IsReachedCore}
 use Rattle.link_commands.specs.declared.acts.NamedAct.{NamedAct}
 use Rattle.link_commands.specs.Acts.{line_of}
 use Rattle.command_run.specs.NamedCores.{NamedCoreState}
-use Rattle.link_commands.specs.NamedLinks.{NamedLink}
 use Rattle.command_run.specs.Runs.{RunState, effect_of, new_run, run_of}
 use Rattle.command_run.specs.Stores.{Answer, Told}
-use Rattle.run_laws.specs.Reached.{AreReached}
 use Rattle.run_laws.proofs.CoreWalks.{FitsNamed}
+use Rattle.run_laws.proofs.CoresReady.{IsSoundCore}
 use Rattle.run_laws.proofs.RunWalks.{item_at}
-use Rattle.run_laws.proofs.RunsReached.{effect_reached, line_fits}
+use Rattle.run_laws.proofs.RunsReached.{AreSound, command_sound, line_fits, none_sound}
 use Rattle.way_laws.specs.CoreAccounts.{done_on_core}
 use Rattle.way_laws.proofs.CoreRungs.{IsRungCore, core_rung, new_core_rung}
 use Rattle.way_laws.proofs.Noted.{noted_kept}
@@ -28,14 +26,14 @@ use Rattle.way_laws.proofs.RunCoreTales.{core_behind, done_fits, holds_after, ma
 abbrev AreRung : List NamedCoreState → Type 0
 AreRung cores = All (λ (named : NamedCoreState). IsRungCore named.core) cores
 
-module _ (answer : Answer) (run : RunState) (asked : Command) (runs : IsRunnable asked) (reached : AreReached run.objects) (are : AreRung run.objects.cores) where
+module _ (answer : Answer) (run : RunState) (asked : Command) (runs : IsRunnable asked) (sound : AreSound run.objects) (are : AreRung run.objects.cores) where
   put_rung : (wanted : NamedAct (List ℕ)) (at : ℕ) (on : NamedCoreState) → ((place : ℕ) → done_on_core run place (line_of asked) ≡ cond (at == place) (Some wanted) None) → slice_get run.objects.cores at ≡ Some on
       → AreRung (slice_set run.objects.cores at (core_behind answer run on wanted))
   put_rung wanted at on acted found =
       let done : done_on_core run at (line_of asked) ≡ Some wanted = acted at ∙ ap (λ b. cond b (Some wanted) None) (eq-eqb at at refl) in
       let fits = subst (λ (now : Option (NamedAct (List ℕ))). IfSome now (FitsNamed IsFitAct)) done (done_fits run at (line_of asked) (line_fits asked runs)) in
       All-set (λ (named : NamedCoreState). IsRungCore named.core) run.objects.cores at (core_behind answer run on wanted)
-      (core_rung run.objects.images answer on run.steps (item_at (λ (named : NamedCoreState). IsReachedCore named.core) run.objects.cores at on found reached.cores)
+      (core_rung run.objects.images answer on run.steps (item_at (λ (named : NamedCoreState). IsSoundCore named.core) run.objects.cores at on found sound.cores)
       (item_at (λ (named : NamedCoreState). IsRungCore named.core) run.objects.cores at on found are) run.objects.is_quiet wanted fits) are
 
   next_rung : AreRung (effect_of answer run asked).run.objects.cores
@@ -47,20 +45,17 @@ module _ (answer : Answer) (run : RunState) (asked : Command) (runs : IsRunnable
   })
 
 record Stands (run : RunState) (nothing : Unit {0}) : Type 0 where
-  pub reached : AreReached run.objects
+  pub sound : AreSound run.objects
   pub cores : AreRung run.objects.cores
 
 run_rung : (told : Told) (commands : List Command) → AreRunnable commands → AreRung (run_of told commands).last.objects.cores
 run_rung told commands runs =
     (noted_kept (λ answer before asked after nothing. tt) Stands
     (λ answer run asked nothing may stands. record {
-      reached = effect_reached answer run asked may stands.reached;
-      cores = next_rung answer run asked may stands.reached stands.cores;
+      sound = command_sound answer run asked may stands.sound;
+      cores = next_rung answer run asked may stands.sound stands.cores;
     })
-    told new_run commands tt runs (record {
-      reached = record { links = All-nil (λ (named : NamedLink). IsReachedBench named.bench); cores = All-nil (λ (named : NamedCoreState). IsReachedCore named.core) };
-      cores = All-nil (λ (named : NamedCoreState). IsRungCore named.core);
-    })).cores
+    told new_run commands tt runs (record { sound = none_sound; cores = All-nil (λ (named : NamedCoreState). IsRungCore named.core) })).cores
 
 module _ (told : Told) (commands : List Command) (place : ℕ) (on : NamedCoreState) (runs : AreRunnable commands) (found : slice_get (run_of told commands).last.objects.cores place ≡ Some on) where
   rung : IsRungCore on.core

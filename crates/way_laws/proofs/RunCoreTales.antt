@@ -3,7 +3,6 @@ use Rattle.std.proofs.Common.{◌≡◌, ℕ, ◌==◌, ◌&&◌, Bool, true, fa
 use Rattle.std.specs.Option.{IsSomeAnd, option_and_then}
 use Rattle.std.proofs.lemmas.Bool.{cond_both, true≢false}
 use Rattle.std.proofs.lemmas.Bool.Decides.{eqb_tells}
-use Rattle.std.proofs.lemmas.List.Elements.{All-nil}
 use Rattle.rp_base.specs.declared.kinds.End.{End}
 use Rattle.rp_base.specs.declared.kinds.End.TheVariants as side
 use Rattle.rp_base.specs.declared.kinds.Switch.{Switch}
@@ -19,7 +18,6 @@ use Rattle.link_bench.specs.Acts.{IsFitAct}
 use Rattle.link_bench.specs.Benches.{BenchState, link_in}
 use Rattle.link_bench.proofs.Begun.{get-set_other}
 use Rattle.crash_recover.specs.Cores.{new_core}
-use Rattle.core_laws.specs.BenchMoves.{IsReachedBench, IsReachedCore}
 use Rattle.link_commands.specs.declared.acts.Line.{Line}
 use Rattle.link_commands.specs.declared.acts.Line.TheVariants as line
 use Rattle.link_commands.specs.declared.acts.Making.{Making}
@@ -32,10 +30,10 @@ use Rattle.command_run.specs.NamedCores.{NamedCoreState}
 use Rattle.link_commands.specs.NamedLinks.{NamedLink}
 use Rattle.command_run.specs.Runs.{RunEffect, RunState, effect_by_core_place, core_made_effect, core_place, dump_answer, dump_effect, dump_effect_of, effect_of, effect_of_core, effect_of_link, has_image, image_effect, is_full, line_effect, effect_by_link_place, made_effect, making_effect, name_effect, new_run, place_of, quiet_effect, regions_of, run_of, run_tells, unnamed_effect, with_image, without_link_effect}
 use Rattle.command_run.specs.Stores.{Answer, Told}
-use Rattle.run_laws.specs.Reached.{AreReached}
 use Rattle.run_laws.proofs.CoreWalks.{FitsNamed}
+use Rattle.run_laws.proofs.CoresReady.{IsSoundCore}
 use Rattle.run_laws.proofs.RunWalks.{FitsLine, item_at}
-use Rattle.run_laws.proofs.RunsReached.{effect_reached, line_fits}
+use Rattle.run_laws.proofs.RunsReached.{AreSound, command_sound, line_fits, none_sound}
 use Rattle.run_laws.proofs.StartsInRuns.{set_there}
 use Rattle.act_laws.specs.Accounts.{Account, IsAccount}
 use Rattle.way_laws.specs.WordedTakes.{ComesFromOpening}
@@ -227,16 +225,16 @@ abbrev AreLevel : End → Option NamedCoreState → Option Account → Type 0
 AreLevel end None account = account ≡ None
 AreLevel end (Some on) account = TaleIf end on.core.bench account
 
-behind_tale : (end : End) (answer : Answer) (run : RunState) (on : NamedCoreState) (acted : Option (NamedAct (List ℕ))) (account : Option Account) → IfSome acted (FitsNamed IsFitAct) → IsReachedCore on.core
+behind_tale : (end : End) (answer : Answer) (run : RunState) (on : NamedCoreState) (acted : Option (NamedAct (List ℕ))) (account : Option Account) → IfSome acted (FitsNamed IsFitAct) → IsSoundCore on.core
     → TaleIf end on.core.bench account → TaleIf end (now_of answer run on acted).core.bench (core_account_behind end run.objects.images answer on run.steps acted account)
-behind_tale end answer run on None account fits reached tale = tale
-behind_tale end answer run on (Some wanted) account fits reached tale = core_tale end run.objects.images answer on run.steps account tale run.objects.is_quiet wanted fits reached
+behind_tale end answer run on None account fits sound tale = tale
+behind_tale end answer run on (Some wanted) account fits sound tale = core_tale end run.objects.images answer on run.steps account tale run.objects.is_quiet wanted fits sound
 
 new_level : (end : End) (found : Option NamedCoreState) → IfSome found HasNone → AreLevel end found None
 new_level end None is = refl
 new_level end (Some made) is = subst (λ (bench : Option BenchState). TaleIf end bench None) (sym is) tt
 
-module _ (end : End) (place : ℕ) (answer : Answer) (run : RunState) (asked : Command) (runs : IsRunnable asked) (reached : AreReached run.objects) where
+module _ (end : End) (place : ℕ) (answer : Answer) (run : RunState) (asked : Command) (runs : IsRunnable asked) (sound : AreSound run.objects) where
   abbrev after : RunState
   after = (effect_of answer run asked).run
 
@@ -247,12 +245,12 @@ module _ (end : End) (place : ℕ) (answer : Answer) (run : RunState) (asked : C
       subst (λ (now : Option NamedCoreState). AreLevel end now (core_account_behind end run.objects.images answer on run.steps (done_on_core run place (line_of asked)) account))
       (sym (holds_after answer run asked _ (there_after answer run (line_of asked) place on found)))
       (behind_tale end answer run on (done_on_core run place (line_of asked)) account (done_fits run place (line_of asked) (line_fits asked runs))
-      (item_at (λ (named : NamedCoreState). IsReachedCore named.core) run.objects.cores place on found reached.cores) is)
+      (item_at (λ (named : NamedCoreState). IsSoundCore named.core) run.objects.cores place on found sound.cores) is)
 
 -- ---- runs
 
 record Stands (end : End) (place : ℕ) (run : RunState) (account : Option Account) : Type 0 where
-  pub reached : AreReached run.objects
+  pub sound : AreSound run.objects
   pub level : AreLevel end (slice_get run.objects.cores place) account
 
 run_tales : (end : End) (place : ℕ) (told : Told) (commands : List Command) → AreRunnable commands
@@ -260,10 +258,10 @@ run_tales : (end : End) (place : ℕ) (told : Told) (commands : List Command) �
 run_tales end place told commands runs =
     (noted_kept (core_accounting end place) (Stands end place)
     (λ answer run asked account may stands. record {
-      reached = effect_reached answer run asked may stands.reached;
-      level = next_level end place answer run asked may stands.reached (slice_get run.objects.cores place) account refl stands.level;
+      sound = command_sound answer run asked may stands.sound;
+      level = next_level end place answer run asked may stands.sound (slice_get run.objects.cores place) account refl stands.level;
     })
-    told new_run commands None runs (record { reached = record { links = All-nil (λ (named : NamedLink). IsReachedBench named.bench); cores = All-nil (λ (named : NamedCoreState). IsReachedCore named.core) }; level = refl })).level
+    told new_run commands None runs (record { sound = none_sound; level = refl })).level
 
 told_at : (end : End) (found : Option NamedCoreState) (account : Option Account) (on : NamedCoreState) → found ≡ Some on → AreLevel end found account → TaleIf end on.core.bench account
 told_at end None account on none is = absurd (true≢false (ap is_some (sym none)))

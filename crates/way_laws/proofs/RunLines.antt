@@ -8,7 +8,7 @@ use Rattle.script_lang.specs.declared.recipes.RecipeLine.{RecipeLine}
 use Rattle.script_lang.specs.Runnable.{AreRunnable, IsRunnable}
 use Rattle.link_bench.specs.declared.acts.LinkAct.{LinkAct}
 use Rattle.link_bench.specs.Acts.{IsFitAct}
-use Rattle.core_laws.specs.BenchMoves.{IsReachedBench, IsReachedCore}
+use Rattle.core_laws.specs.BenchMoves.{IsReachedBench}
 use Rattle.link_commands.specs.declared.acts.CoreAct.TheVariants as core
 use Rattle.link_commands.specs.declared.acts.Line.{Line}
 use Rattle.link_commands.specs.declared.acts.Line.TheVariants as line
@@ -22,8 +22,9 @@ use Rattle.command_run.specs.NamedCores.{NamedCoreState}
 use Rattle.command_run.specs.Runs.{RunEffect, RunState, effect_by_core_place, core_place, effect_of, effect_of_core, effect_of_link, line_effect, effect_by_link_place, name_effect, place_of, run_of, without_link_effect}
 use Rattle.command_run.specs.Stores.{Answer, Told}
 use Rattle.run_laws.proofs.CoreWalks.{FitsNamed}
+use Rattle.run_laws.proofs.CoresReady.{IsSoundCore}
 use Rattle.run_laws.proofs.RunWalks.{item_at}
-use Rattle.run_laws.proofs.RunsReached.{line_fits, runs_reached}
+use Rattle.run_laws.proofs.RunsReached.{line_fits, run_sound}
 use Rattle.way_laws.specs.CoreAccounts.{core_act_deeds, done_on_core, drive_takes, is_unlinked}
 use Rattle.way_laws.specs.RunAccounts.{done_at, is_place, named_takes}
 use Rattle.way_laws.specs.WordedTakes.{AreLinesAmong, AreLinesOfTakes}
@@ -112,11 +113,11 @@ module _ (told : Told) (commands : List Command) (runs : AreRunnable commands) (
       subst (AreLinesOfTakes (named_takes on.bench run.steps wanted) on.name) (sym (link_tells answer run place on found asked wanted done))
       (named_lines on run.steps wanted
       (subst (λ (acted : Option (NamedAct (List ℕ))). IfSome acted (FitsNamed IsFitAct)) done (done_fits run place (line_of asked) (line_fits asked may)))
-      (item_at (λ (named : NamedLink). IsReachedBench named.bench) run.objects.links place on found (runs_reached told commands runs).links)
+      (item_at (λ (named : NamedLink). IsReachedBench named.bench) run.objects.links place on found (run_sound told commands runs).links)
       (links_come told commands place on runs found))
 
-  pub reached : (on : NamedCoreState) → slice_get run.objects.cores place ≡ Some on → IsReachedCore on.core
-  reached on found = item_at (λ (named : NamedCoreState). IsReachedCore named.core) run.objects.cores place on found (runs_reached told commands runs).cores
+  pub sound : (on : NamedCoreState) → slice_get run.objects.cores place ≡ Some on → IsSoundCore on.core
+  sound on found = item_at (λ (named : NamedCoreState). IsSoundCore named.core) run.objects.cores place on found (run_sound told commands runs).cores
 
   -- an act on the link of a core
   pub core_lines : (act : LinkAct (List ℕ)) (on : NamedCoreState) → slice_get run.objects.cores place ≡ Some on → done_on_core run place (line_of asked) ≡ Some (under.Link act)
@@ -126,7 +127,7 @@ module _ (told : Told) (commands : List Command) (runs : AreRunnable commands) (
       subst (AreLinesOfTakes (core_act_deeds on.core on.core.bench run.steps act).takes on.name) (sym (core_tells answer run place on found asked (under.Link act) done))
       (core_act_lines on.name on.core run.steps act on.core.bench
       (subst (λ (wanted : Option (NamedAct (List ℕ))). IfSome wanted (FitsNamed IsFitAct)) done (core_done_fits run place (line_of asked) (line_fits asked may)))
-      (reached on found).bench
+      (sound on found).reached.bench
       (cores_come told commands place on runs found))
 
   -- a drive of a core
@@ -135,4 +136,4 @@ module _ (told : Told) (commands : List Command) (runs : AreRunnable commands) (
   unfolding core_effect core_act_effect
   drive_lines count on found done =
       subst (AreLinesAmong (drive_takes count on.core run.steps) on.name) (sym (core_tells answer run place on found asked (under.Core (core.Drive count)) done))
-      (drive_among on.name run.objects.is_quiet on.core run.steps count (reached on found) (cores_come told commands place on runs found))
+      (drive_among on.name run.objects.is_quiet on.core run.steps count (sound on found) (cores_come told commands place on runs found))

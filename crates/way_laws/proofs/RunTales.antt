@@ -3,7 +3,6 @@ use Rattle.std.proofs.Common.{◌≡◌, ℕ, zero, suc, ◌==◌, Bool, cond, L
 use Rattle.std.specs.Option.{IsSomeAnd, option_map}
 use Rattle.std.proofs.lemmas.Bool.{cond_both, true≢false}
 use Rattle.std.proofs.lemmas.Bool.Decides.{eqb_tells}
-use Rattle.std.proofs.lemmas.List.Elements.{All-nil}
 use Rattle.rp_base.specs.Limits.{IsRingSize}
 use Rattle.rp_base.specs.declared.kinds.End.{End}
 use Rattle.rp_base.specs.declared.kinds.End.TheVariants as side
@@ -15,7 +14,7 @@ use Rattle.script_lang.specs.Runnable.{AreRunnable, IsBook, IsRunnable}
 use Rattle.link_bench.specs.Acts.{IsFitAct}
 use Rattle.link_bench.specs.Benches.{BenchState, link_in}
 use Rattle.link_bench.proofs.Begun.{get-set_other}
-use Rattle.core_laws.specs.BenchMoves.{IsReachedBench, IsReachedCore}
+use Rattle.core_laws.specs.BenchMoves.{IsReachedBench}
 use Rattle.link_commands.specs.declared.acts.Line.{Line}
 use Rattle.link_commands.specs.declared.acts.Line.TheVariants as line
 use Rattle.link_commands.specs.declared.acts.Making.{Making}
@@ -23,14 +22,12 @@ use Rattle.link_commands.specs.declared.acts.Making.TheVariants as making
 use Rattle.link_commands.specs.declared.acts.NamedAct.{NamedAct}
 use Rattle.link_commands.specs.declared.acts.NamedAct.TheVariants as under
 use Rattle.link_commands.specs.Acts.{line_of}
-use Rattle.command_run.specs.NamedCores.{NamedCoreState}
 use Rattle.link_commands.specs.NamedLinks.{NamedLink}
 use Rattle.command_run.specs.Runs.{RunState, effect_of, new_run, place_of, run_of}
 use Rattle.command_run.specs.Stores.{Answer, Told}
-use Rattle.run_laws.specs.Reached.{AreReached}
 use Rattle.run_laws.proofs.CoreWalks.{FitsNamed}
 use Rattle.run_laws.proofs.RunWalks.{FitsLine, item_at}
-use Rattle.run_laws.proofs.RunsReached.{effect_reached, line_fits}
+use Rattle.run_laws.proofs.RunsReached.{AreSound, command_sound, line_fits, none_sound}
 use Rattle.run_laws.proofs.StartsInRuns.{set_there}
 use Rattle.act_laws.specs.Accounts.{Account, IsAccount, new_account}
 use Rattle.way_laws.specs.WordedTakes.{ComesFromOpening}
@@ -156,7 +153,7 @@ new_level : (end : End) (found : Option NamedLink) → IfSome found (λ (made : 
 new_level end None is = tt
 new_level end (Some made) is = is
 
-module _ (end : End) (place : ℕ) (answer : Answer) (run : RunState) (asked : Command) (runs : IsRunnable asked) (reached : AreReached run.objects) where
+module _ (end : End) (place : ℕ) (answer : Answer) (run : RunState) (asked : Command) (runs : IsRunnable asked) (sound : AreSound run.objects) where
   abbrev after : RunState
   after = (effect_of answer run asked).run
 
@@ -171,12 +168,12 @@ module _ (end : End) (place : ℕ) (answer : Answer) (run : RunState) (asked : C
       subst (λ (now : Option NamedLink). AreLevel end now (Some (account_behind end on.bench run.steps (done_at run place (line_of asked)) account)))
       (sym (holds_after answer run asked _ (there_after run (line_of asked) place on found)))
       (behind_tale end on run.steps (done_at run place (line_of asked)) account (done_fits run place (line_of asked) (line_fits asked runs))
-      (item_at (λ (named : NamedLink). IsReachedBench named.bench) run.objects.links place on found reached.links) is)
+      (item_at (λ (named : NamedLink). IsReachedBench named.bench) run.objects.links place on found sound.links) is)
 
 -- ---- runs
 
 record Stands (end : End) (place : ℕ) (run : RunState) (account : Option Account) : Type 0 where
-  pub reached : AreReached run.objects
+  pub sound : AreSound run.objects
   pub level : AreLevel end (slice_get run.objects.links place) account
 
 pub run_tales : (end : End) (place : ℕ) (told : Told) (commands : List Command) → AreRunnable commands
@@ -184,10 +181,10 @@ pub run_tales : (end : End) (place : ℕ) (told : Told) (commands : List Command
 run_tales end place told commands runs =
     (noted_kept (accounting end place) (Stands end place)
     (λ answer run asked account may stands. record {
-      reached = effect_reached answer run asked may stands.reached;
-      level = next_level end place answer run asked may stands.reached (slice_get run.objects.links place) account refl stands.level;
+      sound = command_sound answer run asked may stands.sound;
+      level = next_level end place answer run asked may stands.sound (slice_get run.objects.links place) account refl stands.level;
     })
-    told new_run commands None runs (record { reached = record { links = All-nil (λ (named : NamedLink). IsReachedBench named.bench); cores = All-nil (λ (named : NamedCoreState). IsReachedCore named.core) }; level = tt })).level
+    told new_run commands None runs (record { sound = none_sound; level = tt })).level
 
 told_at : (end : End) (found : Option NamedLink) (account : Option Account) (on : NamedLink) → found ≡ Some on → AreLevel end found account → IsSomeAnd account (IsAccount end (link_in on.bench))
 told_at end None account on none is = absurd (true≢false (ap is_some (sym none)))

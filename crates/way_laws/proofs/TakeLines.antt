@@ -33,6 +33,7 @@ use Rattle.core_actors.specs.declared.progress.Driven.{Driven}
 use Rattle.core_actors.specs.declared.progress.Driven.TheVariants as driven
 use Rattle.core_actors.specs.ActorEnds.{actors_after_end}
 use Rattle.core_laws.specs.BenchMoves.{IsReachedBench, IsReachedCore}
+use Rattle.core_laws.specs.DriveParts.{MayDrive}
 use Rattle.link_commands.specs.CallEvents.{end_event, fault_event, reach_events, refused_event}
 use Rattle.link_commands.specs.Effects.{act_effect, answer_events, reclaim_event, turn_events}
 use Rattle.crash_recover.specs.Cores.{CoreState}
@@ -169,7 +170,7 @@ module _ (name : List ℕ) (is_quiet : Bool) (deeds : Deeds) where
   driven_lines (driven.Crashed why closed) found one tells = all_lines name deeds (crash_events name why closed) (crash_lines why closed)
 
 -- a step of a core's actors
-pub drive_lines : (name : List ℕ) (is_quiet : Bool) (core : CoreState) → IsReachedCore core → IfSome core.bench (λ (bench : BenchState). ComesFromOpening (link_in bench))
+pub drive_lines : (name : List ℕ) (is_quiet : Bool) (core : CoreState) → MayDrive core → IsReachedCore core → IfSome core.bench (λ (bench : BenchState). ComesFromOpening (link_in bench))
     → AreLinesOfTakes (drive_deeds core).takes name (step_events name is_quiet (drive_step core))
-drive_lines name is_quiet core reached comes =
-    driven_lines name is_quiet (drive_deeds core) (drive_step core).driven (drive_step core).core.bench (drive_once core reached comes) (λ end. drive_told end core)
+drive_lines name is_quiet core may reached comes =
+    driven_lines name is_quiet (drive_deeds core) (drive_step core).driven (drive_step core).core.bench (drive_once core may reached comes) (λ end. drive_told end core)

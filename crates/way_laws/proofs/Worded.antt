@@ -30,7 +30,7 @@ use Rattle.link_bench.proofs.ActAnswers.{Came, EndsTurns, IsAnswer, IsCallerOf, 
 use Rattle.link_bench.proofs.ActWalks.{AnyWish, act_done, any_calls}
 use Rattle.link_bench.proofs.Begun.{begin_may}
 use Rattle.core_laws.specs.BenchMoves.{IsReachedBench}
-use Rattle.core_laws.proofs.SendableActs.{calls_sendable}
+use Rattle.link_bench.proofs.SendableActs.{calls_sendable}
 use Rattle.link_commands.specs.CallEvents.{end_event, took_event}
 use Rattle.act_laws.specs.Deeds.{Deeds, act_deeds, advance_deeds, parts_deeds, reach_takes}
 use Rattle.act_laws.proofs.ReachedActs.{may_act}

@@ -18,6 +18,7 @@ ghost use Rattle.link_bench.specs.Acts.{IsFitAct, link_act};
 ghost use Rattle.link_bench.specs.Watchers.{nobody_sees};
 ghost use Rattle.core_actors.specs.declared.progress.Driven.TheVariants as driven;
 ghost use Rattle.core_laws.specs.BenchMoves.{IsReachedBench, IsReachedCore};
+ghost use Rattle.core_laws.specs.DriveParts.{MayDrive};
 ghost use Rattle.journal.specs.declared.events.Event.{Event};
 ghost use Rattle.link_commands.specs.CallEvents.{end_event, took_event};
 ghost use Rattle.crash_recover.specs.Cores.{CoreState};
@@ -91,7 +92,7 @@ pub fn takes_are_worded()
         → (act_on_core core bench steps asked).answer ≡ answer.Reached caller (reach.Ended (call_end.Took number judged))
         → IsWordedTake (core_act_deeds core (Some bench) steps asked).takes (link_in (act_on_core core bench steps asked).bench) caller number judged }
     ensures one_driven { (core : CoreState) (caller number : ℕ) (judged : Verdict)
-        → IsReachedCore core → IfSome core.bench (λ (bench : BenchState). ComesFromOpening (link_in bench))
+        → MayDrive core → IsReachedCore core → IfSome core.bench (λ (bench : BenchState). ComesFromOpening (link_in bench))
         → (drive_step core).driven ≡ driven.Ended caller (call_end.Took number judged)
         → IsSomeAnd (drive_step core).core.bench (λ (left : BenchState). IsWordedTake (drive_deeds core).takes (link_in left) caller number judged) }
     ensures links_come { (told : Told) (commands : List Command) (place : ℕ) (on : NamedLink) → AreRunnable commands
@@ -122,9 +123,10 @@ pub fn lines_have_takes()
         → let run = (run_of told commands).last in
         slice_get run.objects.cores place ≡ Some on → done_on_core run place (line_of asked) ≡ Some (under.Core (core.Drive count))
         → AreLinesAmong (drive_takes count on.core run.steps) on.name (effect_of answer run asked).events }
-    ensures driven { (name : List ℕ) (is_quiet : Bool) (core : CoreState) → IsReachedCore core → IfSome core.bench (λ (bench : BenchState). ComesFromOpening (link_in bench))
+    ensures driven { (name : List ℕ) (is_quiet : Bool) (core : CoreState) → MayDrive core → IsReachedCore core
+        → IfSome core.bench (λ (bench : BenchState). ComesFromOpening (link_in bench))
         → AreLinesOfTakes (drive_deeds core).takes name (step_events name is_quiet (drive_step core)) }
-    ensures drive_adds { (end : End) (count : ℕ) (core : CoreState) (steps : ℕ) (account : Option Account) → IsReachedCore core
+    ensures drive_adds { (end : End) (count : ℕ) (core : CoreState) (steps : ℕ) (account : Option Account)
         → option_map (λ (now : Account). now.told) (drive_account end count core steps account)
         ≡ option_map (λ (now : Account). now.told ++ drive_takes count core steps end) account }
     ensures named_core { (told : Told) (commands : List Command) (answer : Answer) (asked : Command) (place : ℕ) (wanted : NamedAct (List ℕ)) (on : NamedCoreState)

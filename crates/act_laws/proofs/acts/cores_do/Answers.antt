@@ -4,7 +4,7 @@ use Rattle.act_laws.proofs.acts.cores_do.Goals as goal
 
 pub returns : goal.returns
 returns c = record {
-  drive = λ core bench left reached has after. drive_done core bench left reached has after;
+  drive = drive_done;
   crash = λ bench. done_of bench _ _ (crash_lands bench);
   ready = λ bench. done_of bench _ _ (ready_lands bench);
 }

@@ -1,7 +1,7 @@
-use Rattle.core_laws.specs.PendingCalls.{IsReadyCore}
+use Rattle.crash_recover.specs.Cores.{IsReadyCore}
 use Rattle.core_laws.proofs.Outcomes.{boot_stays, detach_stays, handover_stays, recovery_stays, report_stays, shutdown_stays}
-use Rattle.core_laws.proofs.PendingDrives.{drive_ready}
-use Rattle.core_laws.proofs.PendingOthers.{readied_ready, ready_stays}
+use Rattle.crash_recover.proofs.ReadyCores.{readied_ready}
+use Rattle.core_laws.proofs.ReadyLives.{drive_ready, ready_stays}
 use Rattle.core_laws.proofs.CoreActs.{core_act_ready}
 use Rattle.core_laws.proofs.laws.core_ready.Goals as goal
 

@@ -1,4 +1,4 @@
-use Rattle.run_laws.proofs.CoresReady.{effect_ready, runs_ready}
+use Rattle.run_laws.proofs.RunsReached.{effect_ready, runs_ready}
 use Rattle.run_laws.proofs.laws.cores_ready.Goals as goal
 
 pub returns : goal.returns

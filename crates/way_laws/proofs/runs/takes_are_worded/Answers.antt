@@ -15,7 +15,7 @@ returns c = record {
   line = λ name link caller number judged handing end found told. take_worded name link caller number judged handing end found told;
   one = λ own bench steps asked caller number judged fit reached comes is. act_worded nobody_sees bench tt steps reached comes own asked fit caller number judged is;
   one_of_core = λ core bench steps asked caller number judged fit reached comes is. act_worded actors_after_end bench core.actors steps reached comes 2 asked fit caller number judged is;
-  one_driven = λ core caller number judged reached comes is. drive_worded core reached comes caller number judged is;
+  one_driven = λ core caller number judged may reached comes is. drive_worded core may reached comes caller number judged is;
   links_come = λ told commands place on runs found. links_come told commands place on runs found;
   cores_come = λ told commands place on runs found. cores_come told commands place on runs found;
 }

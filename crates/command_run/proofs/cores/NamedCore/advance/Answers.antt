@@ -1,4 +1,5 @@
 use Rattle.std.proofs.Common.{◌≡◌, ◌-◌, ◌+◌, ◌++◌, ◌||◌, inl, inr, eqb, not, cond, Bool, ℕ, suc, List, false, true, refl, sym, ap, subst, ◌∙◌, true≢false, arith}
+use Rattle.std.proofs.lemmas.Bool.{or_parts}
 use Rattle.journal.specs.Lines.{transcript}
 use Rattle.rp_base.specs.declared.limits.TheConstants.{STEPS_MOST}
 use Rattle.journal.specs.declared.events.Event.TheVariants as event
@@ -22,8 +23,13 @@ loop-done-init c =
     record {
       name = refl;
       on = subst (λ (left : ℕ). DrivesOn c.args.self.now.name c.args.is_quiet c.args.count c.args.self.now.core c.args.log.now left c.args.self.now.core c.args.log.now) none
-          (drive_first c.args.self.now.name c.args.is_quiet c.args.count c.args.self.now.core c.args.log.now);
+          (drive_first c.args.self.now.name c.args.is_quiet c.args.count c.args.self.now.core c.args.log.now c.requires.up);
     }
+
+pub drive_on-requires : goal.drive_on-requires
+drive_on-requires c =
+    let over = or_parts (is_crashed c.loop-done.self.core.life.state) (eqb c.steps.result STEPS_MOST) (sym c.is_over.ensures ∙ c.if-is_over.false) in
+    c.loop-done.invariant.on.up over.0
 
 pub returns-then-is_over-clause-over : goal.returns-then-is_over-clause-over
 returns-then-is_over-clause-over c =
@@ -67,7 +73,7 @@ loop-done-preserved c =
     let log = c.loop-done.log in
     let left = c.args.count - c.loop-done.done in
     let more = c.args.count - (c.loop-done.done + 1) in
-    let one : left ≡ suc more = omega (arith, c.loop-done-test.true, c.requires) in
+    let one : left ≡ suc more = omega (arith, c.loop-done-test.true, c.requires.most) in
     let over : (is_crashed core.life.state || eqb log.steps STEPS_MOST) ≡ false =
     ap (λ n. is_crashed core.life.state || eqb n STEPS_MOST) (sym c.steps.ensures.steps) ∙ sym c.is_over.ensures ∙ c.if-is_over.false in
     let did = c.in_ok-drive_on.ensures in
@@ -91,4 +97,4 @@ returns-clause-on c =
     subst (λ (left : ℕ). DrivesOn c.args.self.now.name c.args.is_quiet c.args.count c.args.self.now.core c.args.log.now left c.loop-done.self.core c.loop-done.log) same c.loop-done.invariant.on
 
 pub returns-clause-over : goal.returns-clause-over
-returns-clause-over c = inl (omega (arith, c.requires))
+returns-clause-over c = inl (omega (arith, c.requires.most))

@@ -13,7 +13,7 @@ use Rattle.command_run.proofs.cores.NamedCore.drive_pieces.Goals as goal
 pub loop-left-init : goal.loop-left-init
 loop-left-init g c = record {
   name = refl;
-  on = handing_first c.args.self.now.name c.args.is_quiet c.args.count c.args.self.now.core c.args.log.now (g.K.Sink.written c.args.out.now);
+  on = handing_first c.args.self.now.name c.args.is_quiet c.args.count c.args.self.now.core c.args.log.now c.requires (g.K.Sink.written c.args.out.now);
   same = refl;
   less = λ less. less;
 }

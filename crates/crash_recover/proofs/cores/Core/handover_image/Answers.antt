@@ -1,7 +1,9 @@
 use Rattle.std.proofs.Common.{not, sym, ap, subst, ◌∙◌}
 use Rattle.proc_state.specs.Lives.{CoreLife}
 use Rattle.crash_recover.specs.Cores.{CoreState, IsSoundLoad}
+use Rattle.core_actors.specs.Actors.{actors_view}
 use Rattle.crash_recover.proofs.KeptBenches.{found_same}
+use Rattle.crash_recover.proofs.ReadyCores.{same_ready}
 use Rattle.crash_recover.proofs.SameLives.{IsHanded, hands_over}
 use Rattle.crash_recover.proofs.cores.Core.handover_image.Goals as goal
 
@@ -18,4 +20,5 @@ invariant_of-self c =
       has_load = sym (ap not handed.loaded);
       unlinked = λ none. c.self.invariant.unlinked (sym handed.users ∙ none);
       kept = found_same inside.life c.args.life inside.bench handed.same c.self.invariant.kept;
+      ready = same_ready inside.life c.args.life (actors_view inside.actors) inside.bench handed.same c.self.invariant.ready;
     }

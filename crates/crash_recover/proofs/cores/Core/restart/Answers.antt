@@ -6,11 +6,13 @@ use Rattle.proc_state.specs.Lives.{CoreLife, is_offline, life_after_recovery, mo
 use Rattle.link_bench.specs.BenchCrashes.{after_reopen}
 use Rattle.link_bench.specs.BenchEnds.{bench_to_reopen}
 use Rattle.link_bench.specs.Benches.{BenchState}
+use Rattle.core_actors.specs.Actors.{ActorsState, actors_view, fresh_actors}
 use Rattle.crash_recover.specs.Cores.{CoreState, IsSoundLoad, load_view}
 use Rattle.crash_recover.specs.CoreRecoveries.{fault_with, recovery_fault, reopen_fault}
-use Rattle.crash_recover.specs.KeptCores.{IsKeptBench}
+use Rattle.crash_recover.specs.KeptCores.{IsKeptBench, IsReadyLink}
 use Rattle.crash_recover.specs.contracts.cores.Core.{the_view}
 use Rattle.crash_recover.proofs.KeptBenches.{core_recovered, map_kept, readied}
+use Rattle.crash_recover.proofs.ReadyCores.{readied_link, reopened_link}
 use Rattle.crash_recover.proofs.Restarts.{recovers, recovery_loaded}
 use Rattle.crash_recover.proofs.SoundCores.{sound_lives, still_none}
 use Rattle.crash_recover.proofs.cores.Core.restart.Goals as goal
@@ -20,14 +22,17 @@ invariant_of-self c =
     let inside = c.self.inside in
     let life = inside.life in
     let ready = c.in_err-reopen_link.ensures.ready in
-    sound_lives inside.regions inside.book life life inside.image inside.loaded inside.bench c.reopen_link.new.link refl
+    sound_lives inside.regions inside.book life life inside.image inside.loaded inside.bench c.reopen_link.new.link (actors_view inside.actors) (actors_view inside.actors) refl
     (λ none. ready ∙ still_none bench_to_reopen inside.bench (c.self.invariant.unlinked none))
-    (subst (λ (found : Option BenchState). IfSome found (IsKeptBench life)) (sym ready) (map_kept life life inside.bench bench_to_reopen (readied life) c.self.invariant.kept)) c.self.invariant
+    (subst (λ (found : Option BenchState). IfSome found (IsKeptBench life)) (sym ready) (map_kept life life inside.bench bench_to_reopen (readied life) c.self.invariant.kept))
+    (subst (IsReadyLink life.state (actors_view inside.actors)) (sym ready)
+    (readied_link life (actors_view inside.actors) inside.bench (subst (λ (core : CoreState). recovery_fault core.life ≡ None) (sym c.self.view_is) c.requires.may) c.self.invariant.ready)) c.self.invariant
 
 pub invariant_of-self-2 : goal.invariant_of-self-2
 invariant_of-self-2 c =
     let inside = c.self.inside in
     let core = the_view inside in
+    let fresh : ActorsState = fresh_actors (actors_view inside.actors) 0 in
     let life = (life_after_recovery inside.life).life in
     let may : recovery_fault inside.life ≡ None = subst (λ (core : CoreState). recovery_fault core.life ≡ None) (sym c.self.view_is) c.requires.may in
     let opens : reopen_fault core ≡ None = subst (λ (n : ℕ). fault_with inside.bench (n == most) ≡ None) c.incarnation-is_spent.ensures c.in_ok-reopen_link.ensures.open in
@@ -43,4 +48,6 @@ invariant_of-self-2 c =
       unlinked = λ none. left ∙ still_none (λ (bench : BenchState). after_reopen (bench_to_reopen bench)) inside.bench (c.self.invariant.unlinked (sym c.recover.ensures.users ∙ none));
       kept = subst (λ (life : CoreLife). IfSome c.reopen_link.new.link (IsKeptBench life)) (sym c.recover.ensures.left)
           (subst (λ (found : Option BenchState). IfSome found (IsKeptBench life)) (sym left) (core_recovered core (load_view c.args.loaded) c.self.invariant.kept may opens));
+      ready = subst (λ (actors : ActorsState). IsReadyLink c.recover.new.self.state actors c.reopen_link.new.link) (sym c.restart.ensures)
+          (subst (IsReadyLink c.recover.new.self.state fresh) (sym left) (reopened_link inside.life.state c.recover.new.self.state (actors_view inside.actors) fresh inside.bench refl refl c.self.invariant.ready));
     }

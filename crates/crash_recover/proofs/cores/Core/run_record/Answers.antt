@@ -1,15 +1,17 @@
-use Rattle.std.proofs.Common.{Bool, Some, IfSome, ap, ◌∙◌, subst}
+use Rattle.std.proofs.Common.{◌≡◌, Bool, false, Some, IfSome, is_some, length, sym, ap, ◌∙◌, subst}
 use Rattle.std.specs.Option.{option_map}
 use Rattle.fw_load.specs.declared.loading.Loaded.{Loaded}
 use Rattle.remote_core.specs.Works.{memory_after, work_of}
 use Rattle.core_actors.specs.declared.actors.Actor.TheVariants as actor
 use Rattle.core_actors.specs.Actors.{ActorsState, actors_view}
 use Rattle.crash_recover.specs.Cores.{CoreState, IsSoundLoad, LoadState, load_view}
-use Rattle.core_actors.specs.ActorSteps.{actors_after_record, drive_of_work, with_next_after}
+use Rattle.core_actors.specs.ActorSteps.{actors_after_record, drive_of_work, has_calls, with_next_after}
 use Rattle.crash_recover.specs.Drives.{DriveStep, with_turn_after}
 use Rattle.crash_recover.specs.contracts.cores.Core.{the_view}
+use Rattle.crash_recover.specs.KeptCores.{IsReadyLink}
 use Rattle.crash_recover.proofs.CoreLoads.{place_is}
-use Rattle.crash_recover.proofs.RecordRuns.{record_ran}
+use Rattle.crash_recover.proofs.ReadyCores.{found_record}
+use Rattle.crash_recover.proofs.RecordRuns.{record_ran, sound_ran}
 use Rattle.crash_recover.proofs.cores.Core.run_record.Goals as goal
 
 pub returns-clause-driven : goal.returns-clause-driven
@@ -39,3 +41,25 @@ returns-clause-left c =
     ∙ ap (put (load_view (left c.is_some-linked.result))) c.in_ok-run_record.ensures.actors
     ∙ ap (λ (linked : Bool). put (load_view (left linked)) (acted linked)) c.is_some-linked.ensures
     ∙ ap (λ (step : DriveStep). step.core) ran)
+
+pub invariant_of-self-2 : goal.invariant_of-self-2
+invariant_of-self-2 c =
+    let inside = c.self.inside in
+    let is = c.self.invariant in
+    let loaded = c.in-Some.loaded in
+    let did = c.in_ok-run_record.ensures in
+    let sound = subst (λ found. IfSome found (IsSoundLoad inside.regions)) c.in-Some.is is.loaded in
+    let silent = subst (λ (core : CoreState). has_calls core.bench core.actors ≡ false) (sym c.self.view_is) c.requires.silent in
+    record {
+      book = is.book;
+      loaded = subst (IsSoundLoad inside.regions) (sym did.loaded)
+          (sound_ran inside.regions loaded _ (sym (ap (λ (load : Loaded). length load.memory) did.loaded) ∙ did.memory) sound);
+      has_image = is.has_image;
+      has_load = sym (ap is_some c.in-Some.is) ∙ is.has_load;
+      unlinked = is.unlinked;
+      kept = is.kept;
+      ready = subst (λ (acted : ActorsState). IsReadyLink inside.life.state acted inside.bench) (sym did.actors) (record {
+        begun = is.ready.begun;
+        calls = λ up. found_record (actors_view inside.actors) loaded.memory loaded.map c.is_some-linked.result inside.life inside.bench silent is.kept (is.ready.calls up);
+      });
+    }

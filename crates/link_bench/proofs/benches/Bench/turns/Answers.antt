@@ -1,8 +1,8 @@
 use Rattle.std.proofs.Common.{◌≡◌, suc, ◌+◌, ◌-◌, sym, ap, ◌∙◌, arith}
 use Rattle.link_bench.specs.Turns.{Pumped, pump_turns}
 use Rattle.link_bench.proofs.Cuts.{on_err}
-use Rattle.link_bench.proofs.TurnWalks.{turns_last, turns_more, turns_none, turns_stop, whole_pump}
-use Rattle.link_bench.proofs.benches.Bench.turns.Goals.{After-loop-done, Then-not-is_whole}
+use Rattle.link_bench.proofs.TurnWalks.{turns_more, turns_none, turns_stop, whole_pump}
+use Rattle.link_bench.proofs.benches.Bench.turns.Goals.{After-from_residual, After-loop-done, Then-not-is_whole}
 use Rattle.link_bench.proofs.benches.Bench.turns.Goals as goal
 
 -- a turn that isn't whole is the last
@@ -11,9 +11,10 @@ stopped : (g : _) (c : Then-not-is_whole g) → record { turns = record { bench 
 stopped g c =
     let more = c.args.count - (c.loop-done.done + 1) in
     let count : c.loop-done.done + suc more ≡ c.args.count = omega (arith, c.loop-done-test.true) in
-    turns_stop g.W.Watcher.sees c.loop-done.done c.args.sender c.args.receiver c.loop-done.self (g.W.Watcher.state c.loop-done.watcher) c.loop-done.steps
+    turns_stop g.W.Watcher.sees c.loop-done.done c.args.sender c.args.receiver c.loop-done.self (g.W.Watcher.state c.make_room.new.self) c.loop-done.steps
     c.turn.new.self (g.W.Watcher.state c.turn.new.watcher) c.turn.new.steps c.turn.new.ended more
-    c.in_ok-turn.ensures.bench c.in_ok-turn.ensures.watcher c.in_ok-turn.ensures.steps c.in_ok-turn.ensures.ended (sym c.is_whole.ensures ∙ c.if-not-is_whole.true)
+    c.turn.ensures.bench c.turn.ensures.watcher c.turn.ensures.steps c.turn.ensures.ended (sym c.is_whole.ensures ∙ c.if-not-is_whole.true)
+    ∙ ap (λ w. pump_turns g.W.Watcher.sees (suc more) c.loop-done.done c.args.sender c.args.receiver c.loop-done.self w c.loop-done.steps) c.make_room.ensures.same
     ∙ c.loop-done.invariant.turns (suc more)
     ∙ ap (λ n. pump_turns g.W.Watcher.sees n 0 c.args.sender c.args.receiver c.args.self.now (g.W.Watcher.state c.args.watcher.now) c.args.steps.now) count
 
@@ -28,14 +29,21 @@ whole g c =
     ∙ c.loop-done.invariant.turns 0
     ∙ ap (λ n. pump_turns g.W.Watcher.sees n 0 c.args.sender c.args.receiver c.args.self.now (g.W.Watcher.state c.args.watcher.now) c.args.steps.now) count
 
--- the turn in which memory runs out is the last, and is done like the others
-pub returns-in_err-turn-clause-cut : goal.returns-in_err-turn-clause-cut
-returns-in_err-turn-clause-cut g c = on_err c.from_residual.result (record {
-  done = c.loop-done.done + 1;
+-- where memory runs out before a turn, those before it are done
+ran_out : (g : _) (c : After-from_residual g) → whole_pump c.loop-done.self (g.W.Watcher.state c.loop-done.watcher) c.loop-done.steps c.loop-done.done
+    ≡ pump_turns g.W.Watcher.sees c.loop-done.done 0 c.args.sender c.args.receiver c.args.self.now (g.W.Watcher.state c.args.watcher.now) c.args.steps.now
+ran_out g c =
+    let none : c.loop-done.done + 0 ≡ c.loop-done.done = omega arith in
+    sym (turns_none g.W.Watcher.sees c.loop-done.done c.args.sender c.args.receiver c.loop-done.self (g.W.Watcher.state c.loop-done.watcher) c.loop-done.steps)
+    ∙ c.loop-done.invariant.turns 0
+    ∙ ap (λ n. pump_turns g.W.Watcher.sees n 0 c.args.sender c.args.receiver c.args.self.now (g.W.Watcher.state c.args.watcher.now) c.args.steps.now) none
+
+pub returns-in_err-make_room-clause-cut : goal.returns-in_err-make_room-clause-cut
+returns-in_err-make_room-clause-cut g c = on_err c.from_residual.result (record {
+  done = c.loop-done.done;
   most = omega (arith, c.loop-done-test.true);
-  bench = c.in_err-turn.ensures.bench
-      ∙ turns_last g.W.Watcher.sees c.loop-done.done c.args.sender c.args.receiver c.loop-done.self (g.W.Watcher.state c.loop-done.watcher) c.loop-done.steps
-      ∙ ap (λ (pumped : Pumped g.W.Watcher.State). pumped.turns.bench) (c.loop-done.invariant.turns 1);
+  bench = ap (λ (pumped : Pumped g.W.Watcher.State). pumped.turns.bench) (ran_out g c);
+  watcher = c.make_room.ensures.same ∙ ap (λ (pumped : Pumped g.W.Watcher.State). pumped.turns.watcher) (ran_out g c);
 })
 
 pub returns-then-not-is_whole-clause-bench : goal.returns-then-not-is_whole-clause-bench
@@ -57,9 +65,10 @@ pub loop-done-preserved : goal.loop-done-preserved
 loop-done-preserved g c = record {
   turns = λ more.
       let count : c.loop-done.done + suc more ≡ c.loop-done.done + 1 + more = omega arith in
-      turns_more g.W.Watcher.sees c.loop-done.done c.args.sender c.args.receiver c.loop-done.self (g.W.Watcher.state c.loop-done.watcher) c.loop-done.steps
+      turns_more g.W.Watcher.sees c.loop-done.done c.args.sender c.args.receiver c.loop-done.self (g.W.Watcher.state c.make_room.new.self) c.loop-done.steps
       c.turn.new.self (g.W.Watcher.state c.turn.new.watcher) c.turn.new.steps c.turn.new.ended more
-      c.in_ok-turn.ensures.bench c.in_ok-turn.ensures.watcher c.in_ok-turn.ensures.steps c.in_ok-turn.ensures.ended (sym c.is_whole.ensures ∙ c.if-not-is_whole.false)
+      c.turn.ensures.bench c.turn.ensures.watcher c.turn.ensures.steps c.turn.ensures.ended (sym c.is_whole.ensures ∙ c.if-not-is_whole.false)
+      ∙ ap (λ w. pump_turns g.W.Watcher.sees (suc more) c.loop-done.done c.args.sender c.args.receiver c.loop-done.self w c.loop-done.steps) c.make_room.ensures.same
       ∙ c.loop-done.invariant.turns (suc more)
       ∙ ap (λ n. pump_turns g.W.Watcher.sees n 0 c.args.sender c.args.receiver c.args.self.now (g.W.Watcher.state c.args.watcher.now) c.args.steps.now) count;
 }

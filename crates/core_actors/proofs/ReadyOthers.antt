@@ -1,13 +1,18 @@
--- What others do on the link of a core, and what the core itself goes through, leave calls of its actors that may begin.
-use Rattle.std.proofs.Common.{◌≡◌, ◌≢◌, ◌<◌, ℕ, zero, suc, ◌+◌, eqb, Bool, true, false, not, List, [], ◌∷◌, ◌++◌, drop, Option, Some, None, IfSome, is_some, option_map, option_and_then, slice_get, slice_set, refl, sym, ap, subst, ◌∙◌, arith}
-use Rattle.std.proofs.lemmas.Bool.{cond_both, false≢true, ne_eqb, true≢false}
+-- What others do on the link of a core, and a record that the worker runs, leave its actors ready for their next steps.
+use Rattle.std.proofs.Common.{◌≡◌, ◌≢◌, ◌<◌, ℕ, zero, suc, ◌+◌, eqb, Bool, true, false, not, List, [], ◌∷◌, ◌++◌, drop, Option, Some, None, Result, Ok, Err, option_and_then, slice_get, slice_set, refl, sym, ap, subst, ◌∙◌, arith}
+use Rattle.std.proofs.lemmas.Bool.{cond_both, false≢true, ne_eqb, or_parts}
 use Rattle.rp_base.specs.declared.kinds.End.{End}
 use Rattle.rp_base.specs.declared.kinds.End.TheVariants as side
-use Rattle.rp_base.specs.declared.kinds.LifeState.{LifeState}
-use Rattle.rp_base.specs.declared.kinds.LifeState.TheVariants.{Offline, Running, Crashed, Attached, Detached}
 use Rattle.rp_base.specs.declared.limits.TheConstants.{STEPS_MOST}
-use Rattle.fw_load.specs.declared.rings.RingPair.{RingPair}
-use Rattle.proc_state.specs.Lives.{CoreLife, is_up, line_of}
+use Rattle.addr_translate.specs.Maps.{Mapping}
+use Rattle.remote_code.specs.declared.faults.WorkerFault.{WorkerFault}
+use Rattle.remote_code.specs.declared.records.Record.{Record}
+use Rattle.remote_code.specs.declared.records.Record.TheVariants as record_kind
+use Rattle.remote_core.specs.Records.{next_record}
+use Rattle.remote_core.specs.Workers.{WorkerState}
+use Rattle.remote_core.specs.Works.{work_of, work_of_next, work_of_record}
+use Rattle.remote_core.specs.declared.workers.Work.{Work as Worked}
+use Rattle.remote_core.specs.declared.workers.Work.TheVariants as worked
 use Rattle.lane_model.specs.declared.calls.CallEnd.{CallEnd}
 use Rattle.lane_model.specs.declared.calls.CallEnd.TheVariants as end
 use Rattle.lane_model.specs.declared.calls.Wish.{Wish}
@@ -29,24 +34,31 @@ use Rattle.lane_model.proofs.Steps.{no_other}
 use Rattle.channel_bus.specs.Sides.{EndState, side_meaning}
 use Rattle.link_bench.specs.declared.benches.BegunCall.{BegunCall}
 use Rattle.link_bench.specs.declared.benches.Reach.TheVariants as reach
-use Rattle.core_actors.specs.Actors.{ActorsState, driver_names}
-use Rattle.link_bench.specs.BenchCrashes.{after_reclaim, after_reopen, reclaim_leaves, reclaim_leaves_at}
-use Rattle.core_laws.specs.BenchMoves.{IsReachedBench}
-use Rattle.link_bench.specs.Benches.{BenchState, BenchWalk, IsSendable, advance_steps, advance_walk, begin_fault, begun_call_of, bench_walk, call_steps, call_walk, is_in_call, link_in, on_rings, start_walk, with_begun, with_new_caller}
-use Rattle.crash_recover.specs.CoreBoots.{core_bench, load_in, started_core}
-use Rattle.link_bench.specs.BenchEnds.{bench_to_reopen, with_new_host_unless}
-use Rattle.crash_recover.specs.CoreRecoveries.{after_recovery, core_to_reopen, recovery_fault, recovery_fault_to}
-use Rattle.crash_recover.specs.Cores.{CoreState, LoadState, loaded_rings}
-use Rattle.core_actors.specs.ActorEnds.{actors_at_end, end_answer, sends_of}
-use Rattle.core_laws.specs.PendingCalls.{AreFitLanes, AreGivable, HasNoneBegun, IsNamed, IsOwnTurn, IsReadyBench, IsReadyCore, IsSendsTurn, given_after, given_by}
-use Rattle.core_laws.proofs.BenchMoves.{begun_at, begun_or, calling_may}
+use Rattle.link_bench.specs.BenchCrashes.{after_reclaim, reclaim_leaves, reclaim_leaves_at}
+use Rattle.link_bench.specs.Benches.{AreFitCalls, BenchState, BenchWalk, IsSendable, advance_steps, advance_walk, begin_fault, begun_call_of, bench_walk, call_steps, call_walk, is_in_call, link_in, on_rings, start_walk, with_begun, with_new_caller}
 use Rattle.link_bench.proofs.Begun.{begin_may}
+use Rattle.link_bench.proofs.FitCalls.{begun_at, begun_or, calling_may}
 use Rattle.link_bench.proofs.Lists.{reclaim_lists}
-use Rattle.core_laws.proofs.Outcomes.{Stays}
-use Rattle.core_laws.proofs.PendingCores.{given_both, none_behind, sends_nothing}
-use Rattle.core_laws.proofs.PendingDrives.{cleared_begun, crashed_ready, map_begun, reclaim_begun}
-use Rattle.core_laws.proofs.PendingLanes.{KeepsOwn}
-use Rattle.core_laws.proofs.PendingSteps.{fit_lanes, other_call, other_later}
+use Rattle.core_actors.specs.Actors.{ActorsState}
+use Rattle.core_actors.specs.ActorEnds.{actors_at_end, end_answer, sends_of}
+use Rattle.core_actors.specs.ActorSteps.{actors_after_record, wishes_of_work}
+use Rattle.core_actors.specs.PendingCalls.{AreFitLanes, AreGivable, AreOwnUsed, HasNoneBegun, IsNamed, IsOwnTurn, IsReadyBench, IsSendsTurn, given_after, given_by}
+use Rattle.core_actors.proofs.PendingActors.{given_both, none_behind, sends_nothing, silent}
+use Rattle.core_actors.proofs.PendingLanes.{KeepsOwn}
+use Rattle.core_actors.proofs.PendingSteps.{fit_lanes, other_call, other_later}
+
+-- ---- calls that are begun no more
+
+pub cleared_begun : (begun : List (Option BegunCall)) (gone caller : ℕ) → option_and_then (λ found. found) (slice_get begun caller) ≡ None
+    → option_and_then (λ found. found) (slice_get (slice_set begun gone None) caller) ≡ None
+cleared_begun [] gone caller none = none
+cleared_begun (found ∷ begun) zero zero none = refl
+cleared_begun (found ∷ begun) zero (suc caller) none = none
+cleared_begun (found ∷ begun) (suc gone) zero none = none
+cleared_begun (found ∷ begun) (suc gone) (suc caller) none = cleared_begun begun gone caller none
+
+pub reclaim_begun : (bench : BenchState) (gone : ℕ) → HasNoneBegun bench → HasNoneBegun (after_reclaim bench gone)
+reclaim_begun bench gone is = record { host = cleared_begun bench.begun gone 0 is.host; worker = cleared_begun bench.begun gone 1 is.worker }
 
 -- ---- a reclaim of another
 
@@ -125,10 +137,10 @@ module _ (actors : ActorsState) (bench : BenchState) (caller : ℕ) (other : 1 <
         },
       )
 
-  advance_at : (more steps : ℕ) (found : Option BegunCall) → begun_call_of bench caller ≡ found → IsReachedBench bench → is_in_call bench caller ≡ true
+  advance_at : (more steps : ℕ) (found : Option BegunCall) → begun_call_of bench caller ≡ found → AreFitCalls (link_in bench) bench.begun → is_in_call bench caller ≡ true
       → HasNoneBegun (advance_steps bench more steps caller found).bench × IsReadyBench actors (advance_steps bench more steps caller found).bench
-  advance_at more steps (Some call) is reached in_call =
-      let may = reached.fit caller call (begun_at (slice_get bench.begun caller) call is) in
+  advance_at more steps (Some call) is fit in_call =
+      let may = fit caller call (begun_at (slice_get bench.begun caller) call is) in
       cond_both (eqb steps STEPS_MOST) (record { bench = bench; steps = steps; reach = reach.Limit })
       (bench_walk (with_begun bench caller None) (call_steps on_rings more steps bench.rings caller call.follows call.wish))
       (λ (walk : BenchWalk). HasNoneBegun walk.bench × IsReadyBench actors walk.bench) (λ _. (begun, ready))
@@ -139,7 +151,7 @@ module _ (actors : ActorsState) (bench : BenchState) (caller : ℕ) (other : 1 <
           worker = other_call caller 1 side.Remote true actors.worker_calls no_worker more steps bench.rings call.follows call.wish may ready.worker;
         },
       ))
-  advance_at more steps None none reached in_call =
+  advance_at more steps None none fit in_call =
       let may = calling_may (link_in bench) caller (begun_or (begun_call_of bench caller) _ none in_call) in (
         record { host = begun.host; worker = begun.worker },
         record {
@@ -148,9 +160,9 @@ module _ (actors : ActorsState) (bench : BenchState) (caller : ℕ) (other : 1 <
         },
       )
 
-  pub advance_ready : (more steps : ℕ) → IsReachedBench bench → is_in_call bench caller ≡ true
+  pub advance_ready : (more steps : ℕ) → AreFitCalls (link_in bench) bench.begun → is_in_call bench caller ≡ true
       → HasNoneBegun (advance_walk bench more steps caller).bench × IsReadyBench actors (advance_walk bench more steps caller).bench
-  advance_ready more steps reached in_call = advance_at more steps (begun_call_of bench caller) refl reached in_call
+  advance_ready more steps fit in_call = advance_at more steps (begun_call_of bench caller) refl fit in_call
 
   gone : (mine : ℕ) (end : End) (is_first : Bool) (calls : List Wish) → caller ≢ mine → AreFitLanes (lanes_of (link_in bench) end) mine is_first calls
       → AreFitLanes (lanes_of (link_in (after_reclaim bench caller)) end) mine is_first calls
@@ -232,74 +244,45 @@ seen_ready actors bench message ended (Some side.Host) ready = record {
   worker = ready.worker;
 }
 
--- ---- boots, shutdowns and recoveries
+-- ---- a record of the worker
 
-made_begun : (names : List (List ℕ)) (book first : ℕ) (rings : RingPair) → HasNoneBegun (core_bench names book first rings)
-unfolding core_bench
-made_begun names book first rings = record { host = refl; worker = refl }
+record_gives : (memory : List ℕ) (map : Mapping) (source : ℕ) (op : Record) → given_by (wishes_of_work (work_of_record memory map source op)) ≡ []
+record_gives memory map source record_kind.Halt = refl
+record_gives memory map source (record_kind.Announce a b c) = refl
+record_gives memory map source (record_kind.Bind a) = refl
+record_gives memory map source (record_kind.Send n a b c) = refl
+record_gives memory map source (record_kind.Raw n c) = refl
+record_gives memory map source record_kind.Take = refl
+record_gives memory map source (record_kind.Trace n a c) = refl
+record_gives memory map source (record_kind.Crash a) = refl
+record_gives memory map source (record_kind.Loop a b) = refl
 
-made_ready : (actors : ActorsState) (names : List (List ℕ)) (book first : ℕ) (rings : RingPair) → actors.host_calls ≡ [] → actors.worker_calls ≡ [] → IsReadyBench actors (core_bench names book first rings)
-unfolding core_bench
-made_ready actors names book first rings none_host none_worker = record {
-  host = record { sends = tt; receives = record { own = λ _. tt; other = λ _. subst (λ (calls : List Wish). AreGivable [] 0 (given_by calls)) (sym none_host) tt } };
-  worker = record { sends = tt; receives = record { own = λ _. tt; other = λ _. subst (λ (calls : List Wish). AreGivable [] 1 (given_by calls)) (sym none_worker) tt } };
+next_gives : (memory : List ℕ) (map : Mapping) (source : ℕ) (found : Result Record WorkerFault) → given_by (wishes_of_work (work_of_next memory map source found)) ≡ []
+next_gives memory map source (Ok op) = record_gives memory map source op
+next_gives memory map source (Err fault) = refl
+
+-- no record gives a buffer back
+work_gives : (memory : List ℕ) (map : Mapping) (linked : Bool) (worker : WorkerState) → given_by (wishes_of_work (work_of memory map linked worker)) ≡ []
+work_gives memory map linked worker =
+    cond_both worker.is_halted worked.Halted (work_of_next memory map worker.source (next_record memory map linked worker)) (λ (w : Worked). given_by (wishes_of_work w) ≡ [])
+    (λ _. refl) (λ _. next_gives memory map worker.source (next_record memory map linked worker))
+
+-- calls more, which give nothing back, of an actor that is in no call
+more_calls : (lanes : Lanes (LaneState EndState)) (caller : ℕ) (calls more : List Wish) → has_call lanes.incoming.receiver caller ≡ false → given_by more ≡ []
+    → AreFitLanes lanes caller true calls → AreFitLanes lanes caller true (calls ++ more)
+more_calls lanes caller calls more none nothing are = record {
+  sends = are.sends;
+  receives = record {
+    own = λ has. absurd (false≢true (sym none ∙ has));
+    other = λ _. subst (AreGivable lanes.incoming.lane.held caller)
+        (sym (given_both calls more ∙ ap (λ (numbers : List ℕ). given_by calls ++ numbers) nothing ∙ none_behind (given_by calls))) (are.receives.other none);
+  };
 }
 
-rings_begun : (names : List (List ℕ)) (book first : ℕ) (rings : Option RingPair) → IfSome (option_map (core_bench names book first) rings) HasNoneBegun
-rings_begun names book first None = tt
-rings_begun names book first (Some rings) = made_begun names book first rings
-
-rings_ready : (actors : ActorsState) (names : List (List ℕ)) (book first : ℕ) (rings : Option RingPair) → actors.host_calls ≡ [] → actors.worker_calls ≡ []
-    → IfSome (option_map (core_bench names book first) rings) (IsReadyBench actors)
-rings_ready actors names book first None none_host none_worker = tt
-rings_ready actors names book first (Some rings) none_host none_worker = made_ready actors names book first rings none_host none_worker
-
-renewed_begun : (bench : BenchState) (why : Option ReclaimRefusal) → HasNoneBegun bench → HasNoneBegun (with_new_host_unless bench why)
-renewed_begun bench None is = let gone = reclaim_begun bench 0 is in record { host = gone.host; worker = gone.worker }
-renewed_begun bench (Some why) is = is
-
--- a core that waits for its recovery is not up
-stopped : (state : LifeState) (life : CoreLife) → recovery_fault_to (line_of state).recovery life ≡ None → is_up state ≡ false
-stopped Offline life may = refl
-stopped Running life may = absurd (true≢false (ap is_some may))
-stopped Crashed life may = refl
-stopped Attached life may = absurd (true≢false (ap is_some may))
-stopped Detached life may = refl
-
-pub readied_ready : (core : CoreState) → recovery_fault core.life ≡ None → IsReadyCore core → IsReadyCore (core_to_reopen core)
-readied_ready core may is = record {
-  begun = map_begun core.bench bench_to_reopen (λ bench one. renewed_begun bench (link_reclaim_refusal (link_in bench) 0) one) is.begun;
-  calls = λ running. absurd (false≢true (sym (stopped core.life.state core.life may) ∙ running));
-}
-
-reopened_calls : (actors : ActorsState) (found : Option BenchState) → actors.host_calls ≡ [] → actors.worker_calls ≡ []
-    → IfSome (option_map (λ bench. after_reopen (bench_to_reopen bench)) found) (IsReadyBench actors)
-reopened_calls actors None none_host none_worker = tt
-reopened_calls actors (Some bench) none_host none_worker = record {
-  host = record { sends = tt; receives = record { own = λ _. tt; other = λ _. subst (λ (calls : List Wish). AreGivable [] 0 (given_by calls)) (sym none_host) tt } };
-  worker = record { sends = tt; receives = record { own = λ _. tt; other = λ _. subst (λ (calls : List Wish). AreGivable [] 1 (given_by calls)) (sym none_worker) tt } };
-}
-
-pub recovery_ready : (core : CoreState) (given : LoadState) → IsReadyCore core → IsReadyCore (after_recovery core given)
-recovery_ready core given is = record {
-  begun = map_begun core.bench (λ bench. after_reopen (bench_to_reopen bench))
-      (λ bench one. let renewed = renewed_begun bench (link_reclaim_refusal (link_in bench) 0) one in record { host = renewed.host; worker = renewed.worker }) is.begun;
-  calls = λ _. reopened_calls (after_recovery core given).actors core.bench refl refl;
-}
-
-pub started_ready : (core : CoreState) (life : CoreLife) → IsReadyCore (started_core life core)
-started_ready core life = record {
-  begun = rings_begun (driver_names core.actors) core.book life.incarnation (loaded_rings core.loaded);
-  calls = λ _. rings_ready (started_core life core).actors (driver_names core.actors) core.book life.incarnation (loaded_rings core.loaded) refl refl;
-}
-
--- what its actors hold stays over each call of a core
-pub ready_stays : Stays IsReadyCore
-ready_stays = record {
-  same = λ core life image loaded same load is. record { begun = is.begun; calls = λ running. is.calls (sym same.up ∙ running) };
-  started = λ core life image loaded up load is. started_ready (record core { image = image; loaded = loaded }) life;
-  unlinked = λ core life image loaded load is. record { begun = tt; calls = λ _. tt };
-  crashed = λ core life stops is. crashed_ready core life stops is;
-  readied = λ core may is. readied_ready core may is;
-  recovered = λ core found clear may opens is. recovery_ready core (load_in core found) is;
+pub record_bench : (actors : ActorsState) (memory : List ℕ) (map : Mapping) (linked : Bool) (bench : BenchState) → AreOwnUsed (link_in bench).callers → is_in_call bench 1 ≡ false → IsReadyBench actors bench
+    → IsReadyBench (actors_after_record actors memory map linked) bench
+record_bench actors memory map linked bench own none ready = record {
+  host = ready.host;
+  worker = more_calls (lanes_of (link_in bench) side.Remote) 1 actors.worker_calls _
+      (or_parts (has_call (lanes_of (link_in bench) side.Remote).outgoing.sender 1) _ (silent bench 1 side.Remote own.remote none)).1 (work_gives memory map linked actors.worker) ready.worker;
 }

@@ -1,7 +1,7 @@
--- The calls that a core's actors are yet to make, beside the calls under way and the buffers that they hold (own).
-use Rattle.std.specs.Prelude.{◌≡◌, ℕ, ◌==◌, Bool, true, false, IsTrue, not, List, [], ◌∷◌, drop, None, IfSome}
-use Rattle.proc_state.specs.Lives.{is_up}
+-- The calls that a core's actors are yet to make, beside the calls under way and the buffers that they hold: the next call of an actor may always begin (own).
+use Rattle.std.specs.Prelude.{◌≡◌, ℕ, ◌==◌, Bool, true, false, IsTrue, not, List, [], ◌∷◌, drop, Option, Some, None}
 use Rattle.std.specs.List.{list_any}
+use Rattle.rp_base.specs.declared.kinds.End.{End}
 use Rattle.rp_base.specs.declared.kinds.End.TheVariants as side
 use Rattle.lane_model.specs.declared.calls.CallEnd.{CallEnd}
 use Rattle.lane_model.specs.declared.calls.CallEnd.TheVariants as end
@@ -16,11 +16,10 @@ use Rattle.lane_model.specs.declared.stages.Work.TheVariants as work
 use Rattle.lane_model.specs.declared.states.Holding.{Holding}
 use Rattle.lane_model.specs.declared.states.LaneState.{LaneState}
 use Rattle.lane_model.specs.Lanes.{has_call, holds}
-use Rattle.lane_model.specs.Links.{Lanes, lanes_of}
+use Rattle.lane_model.specs.Links.{Lanes, end_of, lanes_of}
 use Rattle.channel_bus.specs.Sides.{EndState}
 use Rattle.core_actors.specs.Actors.{ActorsState}
 use Rattle.link_bench.specs.Benches.{BenchState, begun_call_of, link_in}
-use Rattle.crash_recover.specs.Cores.{CoreState}
 
 -- the numbers of the messages whose buffers these calls give back
 abbrev pub given_by : List Wish → List ℕ
@@ -87,17 +86,26 @@ pub record AreFitLanes (lanes : Lanes (LaneState EndState)) (caller : ℕ) (is_f
   pub sends : IsSendsTurn lanes.outgoing.sender
   pub receives : IsFitLane lanes.incoming caller is_first calls
 
--- the link of a core whose actors are these
-pub record IsReadyBench (actors : ActorsState) (bench : BenchState) : Type 0 where
-  pub host : AreFitLanes (lanes_of (link_in bench) side.Host) 0 (not actors.is_taking) actors.host_calls
-  pub worker : AreFitLanes (lanes_of (link_in bench) side.Remote) 1 true actors.worker_calls
+-- the callers that are a core's own are in use on its link: 0 at the host, 1 at the remote
+pub record AreOwnUsed (callers : List (Option End)) : Type 0 where
+  pub host : end_of callers 0 ≡ Some side.Host
+  pub remote : end_of callers 1 ≡ Some side.Remote
+
+-- the link of a core on which its actors, who are yet to make these calls, hold what the calls give back; the flag says that the host actor is in a take that is not among them
+pub record HoldGiven (host_calls : List Wish) (is_taking : Bool) (worker_calls : List Wish) (bench : BenchState) : Type 0 where
+  pub host : AreFitLanes (lanes_of (link_in bench) side.Host) 0 (not is_taking) host_calls
+  pub worker : AreFitLanes (lanes_of (link_in bench) side.Remote) 1 true worker_calls
+
+-- the same of these actors
+abbrev pub IsReadyBench : ActorsState → BenchState → Type 0
+IsReadyBench actors bench = HoldGiven actors.host_calls actors.is_taking actors.worker_calls bench
 
 -- no actor has begun a call without a step of it
 pub record HasNoneBegun (bench : BenchState) : Type 0 where
   pub host : begun_call_of bench 0 ≡ None
   pub worker : begun_call_of bench 1 ≡ None
 
--- a core whose actors hold, while it is up, what their calls give back
-pub record IsReadyCore (core : CoreState) : Type 0 where
-  pub begun : IfSome core.bench HasNoneBegun
-  pub calls : is_up core.life.state ≡ true → IfSome core.bench (IsReadyBench core.actors)
+-- the actors stand ready for their next steps on this link: they have begun no call without a step of it, and hold what their calls give back
+pub record AreReady (actors : ActorsState) (bench : BenchState) : Type 0 where
+  pub begun : HasNoneBegun bench
+  pub calls : IsReadyBench actors bench

@@ -17,8 +17,8 @@ use Rattle.link_bench.specs.declared.benches.BenchFault.TheVariants as fault
 use Rattle.link_bench.specs.Benches.{BenchState, BenchWalk, advance_steps, advance_walk, begin_fault, begun_call_of, bench_walk, caller_fault, calling_fault, is_in_call, later_steps, link_in, on_rings, start_walk, wish_fault}
 use Rattle.core_actors.specs.ActorEnds.{calls_after_end, gives_of, sends_of, taken_number}
 use Rattle.core_actors.specs.ActorSteps.{first_or_take}
-use Rattle.core_laws.specs.PendingCalls.{AreFitLanes, AreGivable, IsNamedEnd, given_after, given_by, is_among}
-use Rattle.core_laws.proofs.PendingSteps.{IsNext}
+use Rattle.core_actors.specs.PendingCalls.{AreFitLanes, AreGivable, IsNamedEnd, given_after, given_by, is_among}
+use Rattle.core_actors.proofs.PendingSteps.{IsNext}
 
 -- ---- lists of calls
 

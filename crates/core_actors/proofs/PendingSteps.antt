@@ -31,8 +31,8 @@ use Rattle.link_bench.specs.Benches.{Walk, LinkRings, call_steps, later_steps, l
 use Rattle.link_bench.specs.BenchHolds.{is_host}
 use Rattle.link_bench.proofs.KeptWalks.{call_keeps, later_keeps, next_may}
 use Rattle.link_bench.proofs.Lists.{call_lists, later_lists}
-use Rattle.core_laws.specs.PendingCalls.{AreFitLanes, AreGivable, IsFitLane, IsNamed, IsSendsEnd, IsSendsTurn, given_by}
-use Rattle.core_laws.proofs.PendingLanes.{Follows, HasEnded, KeepsOwn, SendsFollow, begin_keeps, fit_kept, keeps_same, receive_follows, receiver_keeps, sender_keeps, sender_turn, sends_follow, take_keeps, taken_sends}
+use Rattle.core_actors.specs.PendingCalls.{AreFitLanes, AreGivable, IsFitLane, IsNamed, IsSendsEnd, IsSendsTurn, given_by}
+use Rattle.core_actors.proofs.PendingLanes.{Follows, HasEnded, KeepsOwn, SendsFollow, begin_keeps, fit_kept, keeps_same, receive_follows, receiver_keeps, sender_keeps, sender_turn, sends_follow, take_keeps, taken_sends}
 
 apart : Some side.Host ≡ Some side.Remote → ⊥
 apart is = true≢false (ap is_host is)

@@ -1,8 +1,9 @@
 -- The messages of an act that is fit fit buffers.
-use Rattle.std.proofs.Common.{◌≡◌, ℕ, ◌≤◌, nat_le, List, length, None, refl, arith}
+use Rattle.std.proofs.Common.{◌≡◌, ℕ, ◌+◌, ◌≤◌, nat_le, List, length, None, refl, arith}
 use Rattle.std.proofs.lemmas.Bool.{leb-true}
+use Rattle.std.proofs.lemmas.List.{length-append}
 use Rattle.rp_base.specs.declared.limits.TheConstants.{PAYLOAD_MOST}
-use Rattle.rpmsg_header.specs.Headers.{header_bytes}
+use Rattle.rpmsg_header.specs.Headers.{head_bytes, header_bytes}
 use Rattle.lane_model.specs.declared.calls.Wish.TheVariants as wish
 use Rattle.link_bench.specs.declared.acts.ActAnswer.TheVariants as answer
 use Rattle.link_bench.specs.declared.acts.CallWish.{CallWish}
@@ -14,7 +15,13 @@ use Rattle.link_bench.specs.Turns.{turn_message}
 use Rattle.link_bench.specs.Acts.{IsFitAct, IsFitWish, misfit, wish_of}
 use Rattle.link_bench.proofs.ActWalks.{FitCalls}
 use Rattle.link_bench.proofs.Begun.{held_from}
-use Rattle.core_laws.proofs.Sendable.{header_length}
+
+-- a header has 16 bytes
+pub header_length : (src dst : ℕ) (payload : List ℕ) → length (header_bytes src dst payload) ≡ 16 + length payload
+header_length src dst payload =
+    let head : length (head_bytes src dst (length payload)) ≡ 16 = refl in
+    let both = length-append (head_bytes src dst (length payload)) payload in
+    omega (arith, head, both)
 
 header_sendable : (source destination : ℕ) (payload : List ℕ) → length payload ≤ PAYLOAD_MOST → IsSendable (wish.Send (header_bytes source destination payload))
 header_sendable source destination payload short =

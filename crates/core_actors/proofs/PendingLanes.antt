@@ -29,7 +29,7 @@ use Rattle.lane_model.specs.Soundness.{AreHandedOnce, IsSoundLane}
 use Rattle.lane_model.proofs.SoundLanes.{turn_step_has}
 use Rattle.lane_model.proofs.Steps.{no_other, receive_on, receiver_own, same, sender_own, turn_step_of}
 use Rattle.channel_bus.specs.Sides.{EndState, side_meaning}
-use Rattle.core_laws.specs.PendingCalls.{AreGivable, IsFitLane, IsNamed, IsNamedEnd, IsOwnTurn, IsSendsEnd, IsSendsTurn, given_after, given_by, is_among}
+use Rattle.core_actors.specs.PendingCalls.{AreGivable, IsFitLane, IsNamed, IsNamedEnd, IsOwnTurn, IsSendsEnd, IsSendsTurn, given_after, given_by, is_among}
 
 -- ---- what is held
 
