@@ -8,8 +8,8 @@ use Rattle.crash_recover.specs.CoreBoots.{Found, needs_image}
 use Rattle.crash_recover.specs.CoreRecoveries.{recovery_fault}
 use Rattle.link_commands.specs.declared.acts.StartAct.{StartAct}
 use Rattle.link_commands.specs.declared.acts.StartAct.TheVariants as starts
-use Rattle.command_run.specs.declared.starts.Begun.{Begun}
-use Rattle.command_run.specs.declared.starts.Begun.TheVariants as begun
+use Rattle.command_run.specs.declared.starts.Beginning.{Beginning}
+use Rattle.command_run.specs.declared.starts.Beginning.TheVariants as beginning
 use Rattle.command_run.specs.declared.starts.Rest.{Rest}
 use Rattle.command_run.specs.declared.starts.Rest.TheVariants as rest
 use Rattle.command_run.specs.declared.faults.StoreFault.{StoreFault}
@@ -50,10 +50,10 @@ NeedsImage core (rest.Handover life image) = ((life_after_handover core.life).an
 NeedsImage core rest.Recovery = recovery_fault core.life ≡ None
 
 -- a start as far as it comes without an image: it is done, whatever image would be found, or it is to go on with one, and nothing has changed
-abbrev pub Begins : StartAct → CoreState → CoreState → Begun → Type 0
-Begins start core left (begun.Done answer) =
+abbrev pub Begins : StartAct → CoreState → CoreState → Beginning → Type 0
+Begins start core left (beginning.Done answer) =
     answer ≢ Err core_fault.NoMemory → (start_needs start core ≡ false) × ((found : Found) → start_with start core found ≡ record { core = left; answer = answer })
-Begins start core left (begun.NeedsImage rest) = (start ≡ start_of rest) × (start_needs start core ≡ true) × NeedsImage left rest × (left ≡ core)
+Begins start core left (beginning.NeedsImage rest) = (start ≡ start_of rest) × (start_needs start core ≡ true) × NeedsImage left rest × (left ≡ core)
 
 -- a start did what it does over what was told of the image that it asked for
 pub record DidStart (images : Option (List (List ℕ × List ℕ))) (start : StartAct) (made : List ImageState) (named : NamedCoreState) (left : CoreState) (before after : LogState) (ending : Option Stop) : Type 0 where

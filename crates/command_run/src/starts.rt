@@ -18,7 +18,7 @@ use std::alloc::Global;
 
 /// How far a start of a core comes without an image.
 #[derive(Drop)]
-pub enum Begun {
+pub enum Beginning {
     /// It did this, or was refused.
     Done(Result<Start, CoreFault>),
     /// It needs an image. Nothing has changed.
@@ -51,8 +51,8 @@ impl NamedCore {
     {
         let image = self.start_name(start);
         match begin(&mut self.core, log.alloc(), start) {
-            Begun::Done(started) => Ok(self.tell_start(image, started, log)?),
-            Begun::NeedsImage(rest) => {
+            Beginning::Done(started) => Ok(self.tell_start(image, started, log)?),
+            Beginning::NeedsImage(rest) => {
                 let found = script_image(images, image.bytes());
                 let started = go_on(&mut self.core, log.alloc(), rest, found.image());
                 Ok(self.tell_start(image, started, log)?)
@@ -75,8 +75,8 @@ impl NamedCore {
     {
         let image = self.start_name(start);
         match begin(&mut self.core, log.alloc(), start) {
-            Begun::Done(started) => Ok(self.tell_start(image, started, log)?),
-            Begun::NeedsImage(rest) => {
+            Beginning::Done(started) => Ok(self.tell_start(image, started, log)?),
+            Beginning::NeedsImage(rest) => {
                 let found = find_image(log.alloc(), images, image.bytes(), store)?;
                 let started = go_on(&mut self.core, log.alloc(), rest, found.image());
                 Ok(self.tell_start(image, started, log)?)
@@ -86,22 +86,22 @@ impl NamedCore {
 }
 
 /// A start of a core as far as it comes without an image.
-fn begin(core: &mut Core, alloc: Global, start: StartAct) -> Begun
+fn begin(core: &mut Core, alloc: Global, start: StartAct) -> Beginning
     ensures { Begins start core.old core.new result }
 {
     match start {
         StartAct::Boot { image } => match core.begin_boot(alloc) {
-            Ok(Boot::Done(start)) => Begun::Done(Ok(start)),
-            Ok(Boot::NeedsImage(life)) => Begun::NeedsImage(Rest::Boot(life, image)),
-            Err(fault) => Begun::Done(Err(fault)),
+            Ok(Boot::Done(start)) => Beginning::Done(Ok(start)),
+            Ok(Boot::NeedsImage(life)) => Beginning::NeedsImage(Rest::Boot(life, image)),
+            Err(fault) => Beginning::Done(Err(fault)),
         },
         StartAct::Handover { image } => match core.handover_life() {
-            Ok(life) => Begun::NeedsImage(Rest::Handover(life, image)),
-            Err(fault) => Begun::Done(Err(CoreFault::Life(fault))),
+            Ok(life) => Beginning::NeedsImage(Rest::Handover(life, image)),
+            Err(fault) => Beginning::Done(Err(CoreFault::Life(fault))),
         },
         StartAct::Recover => match core.recovery_fault() {
-            None => Begun::NeedsImage(Rest::Recovery),
-            Some(fault) => Begun::Done(Err(CoreFault::Life(fault))),
+            None => Beginning::NeedsImage(Rest::Recovery),
+            Some(fault) => Beginning::Done(Err(CoreFault::Life(fault))),
         },
     }
 }
