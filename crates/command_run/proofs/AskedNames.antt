@@ -4,8 +4,7 @@ use Rattle.std.specs.List.{find, position, position_from, position_or_len}
 use Rattle.std.specs.Option.{unwrap_or}
 use Rattle.std.proofs.lemmas.List.Folds.{find_at}
 use Rattle.std.proofs.lemmas.Iterator.Adapters.{position_from-zero}
-use Rattle.std.specs.Str.{IsUtf8, is_utf8}
-use Rattle.std.proofs.lemmas.Str.{IsUtf8-from_is_utf8, is_utf8-from_IsUtf8}
+use Rattle.rp_io.specs.Images.{text_name}
 use Rattle.command_run.specs.CoreLives.{image_bytes}
 use Rattle.command_run.specs.NamedCores.{NamedCoreState}
 use Rattle.command_run.specs.NamedImages.{ImageState}
@@ -55,21 +54,9 @@ made_is images name =
     some_map (λ (image : ImageState). image.bytes) (find (λ (image : ImageState). bytes_eq image.name name) images)
     ∙ some_place (λ (image : ImageState). bytes_eq image.name name) images
 
-not_held : (b : Bool) → (b ≡ true → ⊥) → b ≡ false
-not_held true differ = absurd (differ refl)
-not_held false differ = refl
-
-module _ (images : List ImageState) (name : List ℕ) (new : has_image images name ≡ false) where
-  -- a name that is a text
-  pub asked_outside : IsUtf8 name → outside_image images name ≡ Some name
-  asked_outside is =
-      ap (λ b. cond b None (cond (is_utf8 name) (Some name) None)) new ∙ ap (λ b. cond b (Some name) None) (is_utf8-from_IsUtf8 name is)
-
-  -- and one that isn't
-  pub not_asked : ¬ (IsUtf8 name) → outside_image images name ≡ None
-  not_asked other =
-      ap (λ b. cond b None (cond (is_utf8 name) (Some name) None)) new
-      ∙ ap (λ b. cond b (Some name) None) (not_held (is_utf8 name) (λ is. other (IsUtf8-from_is_utf8 name is)))
+-- the name under which the store is asked for an image that the script didn't make
+pub asked_outside : (images : List ImageState) (name : List ℕ) → has_image images name ≡ false → outside_image images name ≡ text_name name
+asked_outside images name new = ap (λ (b : Bool). cond b None (text_name name)) new
 
 -- a core whose name no link has
 pub core_without_link : (objects : ObjectsState) (name : List ℕ) → None ≡ place_of objects.links name → core_named objects name ≡ find_core objects.cores name
@@ -92,4 +79,4 @@ made_none images name none = sym (made_is images name) ∙ ap is_some none
 
 -- and where it did
 pub not_outside : (images : List ImageState) (name bytes : List ℕ) → image_bytes images name ≡ Some bytes → outside_image images name ≡ None
-not_outside images name bytes is = ap (λ b. cond b None (cond (is_utf8 name) (Some name) None)) (sym (made_is images name) ∙ ap is_some is)
+not_outside images name bytes is = ap (λ (b : Bool). cond b None (text_name name)) (sym (made_is images name) ∙ ap is_some is)

@@ -1,11 +1,11 @@
 -- What is done under a name: on its link, on its core, or on none.
 use Rattle.std.proofs.Common.{◌≡◌, ℕ, Bool, false, cond, List, [], ◌∷◌, ◌++◌, Option, Some, None, IfSome, Err, slice_get, slice_set, refl, sym, ap, subst, ◌∙◌, append-nil}
+use Rattle.rp_io.specs.Images.{ImageAnswer}
 use Rattle.journal.specs.Lines.{line, transcript}
 use Rattle.journal.specs.declared.events.Event.{Event}
 use Rattle.journal.specs.declared.events.Event.TheVariants as event
 use Rattle.crash_recover.specs.Cores.{CoreState}
 use Rattle.link_commands.specs.NamedLinks.{NamedLink}
-use Rattle.command_run.specs.Stores.{Answer}
 use Rattle.link_commands.specs.LinkCommands.{link_effect}
 use Rattle.command_run.specs.NamedCores.{NamedCoreState}
 use Rattle.command_run.specs.CoreCommands.{core_act_effect, core_effect}
@@ -18,7 +18,7 @@ use Rattle.link_bench.specs.Benches.{BenchState, new_bench_of}
 use Rattle.link_commands.specs.Logs.{KeepsLess, LogState, HasEffect}
 use Rattle.command_run.specs.Outcomes.{CutsCore, CutsRun, HandsCoreEffect, HandsRunEffect, HasCoreEffect, HasRunEffect, KeepsWhole}
 use Rattle.command_run.specs.Fetches.{KeepsDriven, drive_line}
-use Rattle.rp_io.specs.declared.faults.FetchFault.TheVariants as fetch_fault
+use Rattle.rp_io.specs.declared.faults.NoImage.TheVariants as no_image
 use Rattle.link_commands.specs.declared.acts.CoreAct.TheVariants as core
 use Rattle.link_commands.specs.declared.acts.NamedAct.{NamedAct}
 use Rattle.link_commands.specs.declared.acts.NamedAct.TheVariants as under
@@ -36,7 +36,7 @@ pub with_core : (now named : NamedCoreState) (core : CoreState) → now.name ≡
 with_core now named core name same =
     sym (ap (λ (n : List ℕ). record now { name = n }) name ∙ ap (λ (b : CoreState). record named { core = b }) same)
 
-module _ (fetched : Answer) (run : RunState) (called : List ℕ) (wanted : NamedAct (List ℕ)) where
+module _ (fetched : ImageAnswer) (run : RunState) (called : List ℕ) (wanted : NamedAct (List ℕ)) where
   -- on the link at a place
   effect_at : (place : ℕ) (named : NamedLink) → Some place ≡ place_of run.objects.links called
       → slice_get run.objects.links place ≡ Some named → name_effect fetched run called wanted ≡ link_effect_at run place named (link_effect named run.steps wanted)
@@ -132,12 +132,12 @@ module _ (run : RunState) (objects : ObjectsState) (before after : LogState) whe
       (tells_run made (event.Open name 1) is (ap (λ (log : LogState). log.steps) kept ∙ steps) (ap (λ (log : LogState). log.lines) kept))
 
 -- a drive of a core
-pub drive_on_core : (images : List ImageState) (fetched : Answer) (is_quiet : Bool) (named : NamedCoreState) (steps count : ℕ)
+pub drive_on_core : (images : List ImageState) (fetched : ImageAnswer) (is_quiet : Bool) (named : NamedCoreState) (steps count : ℕ)
     → core_effect images fetched is_quiet named steps (under.Core (core.Drive count)) ≡ drive_effect named.name is_quiet named.core steps count
 unfolding core_effect core_act_effect
 drive_on_core images fetched is_quiet named steps count = refl
 
-module _ (fetched : Answer) (run : RunState) (called : List ℕ) (count place : ℕ) (named : NamedCoreState) (bare : None ≡ place_of run.objects.links called)
+module _ (fetched : ImageAnswer) (run : RunState) (called : List ℕ) (count place : ℕ) (named : NamedCoreState) (bare : None ≡ place_of run.objects.links called)
     (placed : Some place ≡ core_place run.objects.cores called) (found : slice_get run.objects.cores place ≡ Some named) where
   abbrev driven : CoreEffect
   driven = drive_effect named.name run.objects.is_quiet named.core run.steps count
@@ -161,7 +161,7 @@ module _ (fetched : Answer) (run : RunState) (called : List ℕ) (count place : 
       })
 
 -- a drive of the core at a place that was cut off is one of the run
-pub drive_cut : (fetched : Answer) (run : RunState) (called : List ℕ) (count place : ℕ) (named now : NamedCoreState) (lines : List ℕ) (written new : Option (List ℕ)) → None ≡ place_of run.objects.links called
+pub drive_cut : (fetched : ImageAnswer) (run : RunState) (called : List ℕ) (count place : ℕ) (named now : NamedCoreState) (lines : List ℕ) (written new : Option (List ℕ)) → None ≡ place_of run.objects.links called
     → Some place ≡ core_place run.objects.cores called → slice_get run.objects.cores place ≡ Some named → now.name ≡ named.name
     → CutsCore (λ done. drive_effect named.name run.objects.is_quiet named.core run.steps done) count now.core lines written new
     → CutsRun (λ done. name_effect fetched run called (under.Core (core.Drive done))) count (record run.objects { cores = slice_set run.objects.cores place now }) lines written new
@@ -193,8 +193,8 @@ pub drive_keeps : (run : RunState) (called : List ℕ) (count place : ℕ) (name
     → Some place ≡ core_place run.objects.cores called → slice_get run.objects.cores place ≡ Some named
     → (KeepsLess before → KeepsWhole (λ done. (drive_effect named.name run.objects.is_quiet named.core run.steps done).events) count lines) → KeepsDriven run called count before lines
 drive_keeps run called count place named before lines bare placed found keeps =
-    let same = λ (n : ℕ). ap (λ (e : RunEffect). e.events) (drive_placed (Err fetch_fault.Missing) run called n place named bare placed found) in
-    if_driven (core_named run.objects called) (KeepsLess before → KeepsWhole (λ done. (line_effect (Err fetch_fault.Missing) run (drive_line called done)).events) count lines)
+    let same = λ (n : ℕ). ap (λ (e : RunEffect). e.events) (drive_placed (Err no_image.Missing) run called n place named bare placed found) in
+    if_driven (core_named run.objects called) (KeepsLess before → KeepsWhole (λ done. (line_effect (Err no_image.Missing) run (drive_line called done)).events) count lines)
     (λ less. keeps_same _ _ count _ _ lines same (same count) (keeps less))
 
 -- what a command did that handed on nothing

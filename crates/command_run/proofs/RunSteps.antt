@@ -5,7 +5,7 @@ use Rattle.script_lang.specs.Runnable.{AreRunnable, IsRunnable}
 use Rattle.journal.specs.declared.events.Event.{Event}
 use Rattle.link_commands.specs.declared.stops.Stop.{Stop}
 use Rattle.command_run.specs.Stores.{Shelf, Told, answer_for, later_told, told_answer}
-use Rattle.rp_io.specs.declared.faults.FetchFault.TheVariants as fetch_fault
+use Rattle.rp_io.specs.declared.faults.NoImage.TheVariants as no_image
 use Rattle.link_commands.specs.Logs.{LogState}
 use Rattle.command_run.specs.Outcomes.{HandsRunEffect}
 use Rattle.command_run.specs.Runs.{AsksNone, IfGoesOn, ObjectsState, RunEffect, RunState, Run, asked_name, run_on, run_from, run_told, effect_of}
@@ -72,18 +72,18 @@ pub asks_first : (state : RunState) (left : List Command) (first : Command) (mor
 unfolding AsksNone
 asks_first state left first more is none = (subst (AsksNone state) is none).0
 
-asks_behind : (state : RunState) (first : Command) (more : List Command) → AsksNone state (first ∷ more) → (effect_of (Err fetch_fault.Missing) state first).ending ≡ None
-    → AsksNone (effect_of (Err fetch_fault.Missing) state first).run more
+asks_behind : (state : RunState) (first : Command) (more : List Command) → AsksNone state (first ∷ more) → (effect_of (Err no_image.Missing) state first).ending ≡ None
+    → AsksNone (effect_of (Err no_image.Missing) state first).run more
 unfolding AsksNone
 asks_behind state first more none goes =
-    subst (λ (ending : Option Stop). IfGoesOn ending (AsksNone (effect_of (Err fetch_fault.Missing) state first).run more)) goes none.1
+    subst (λ (ending : Option Stop). IfGoesOn ending (AsksNone (effect_of (Err no_image.Missing) state first).run more)) goes none.1
 
 pub asks_later : (state : RunState) (left : List Command) (first : Command) (more : List Command) (shelf : Shelf) (objects : ObjectsState) (before after : LogState) (answer : Option Stop) → left ≡ first ∷ more
     → AsksNone state left → (written now : Option (List ℕ)) → HandsRunEffect (effect_over shelf state first) objects before after written now answer → answer ≡ None → AsksNone (record { objects = objects; steps = after.steps }) more
 asks_later state left first more shelf objects before after answer is none written now did goes =
     let asked = asks_first state left first more is none in
     let found = subst (λ (a : Option (List ℕ)). HandsRunEffect (effect_of (answer_for shelf a) state first) objects before after written now answer) asked did in
-    let effect = effect_of (Err fetch_fault.Missing) state first in
+    let effect = effect_of (Err no_image.Missing) state first in
     subst (λ (run : RunState). AsksNone run more)
     (ap (λ (l : ObjectsState). record { objects = l; steps = effect.run.steps }) (sym found.objects) ∙ ap (λ (n : ℕ). record { objects = objects; steps = n }) (sym found.steps))
     (asks_behind state first more (subst (AsksNone state) is none) (sym found.ending ∙ goes))

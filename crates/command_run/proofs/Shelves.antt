@@ -1,11 +1,10 @@
 -- What a store told so far, and what it is still to tell.
 use Rattle.std.proofs.Common.{◌≡◌, ℕ, zero, suc, false, List, [], ◌∷◌, ◌++◌, Option, Some, None, Err, refl, sym, ap, ◌∙◌}
-use Rattle.rp_io.specs.declared.faults.FetchFault.TheVariants as fetch_fault
-use Rattle.rp_io.specs.Images.{fetch_answer}
+use Rattle.rp_io.specs.declared.faults.NoImage.TheVariants as no_image
+use Rattle.rp_io.specs.Images.{ImageAnswer, IsToldFor, fetch_answer}
 use Rattle.script_lang.specs.declared.commands.Command.{Command}
 use Rattle.link_commands.specs.declared.stops.Stop.{Stop}
-use Rattle.command_run.specs.Stores.{Answer, IsHeld, IsHeldAt, IsShelf, IsTold, IsToldAt, Shelf, Told, answer_for, later_told, store_of, told_answer}
-use Rattle.command_run.specs.Fetches.{IsToldFor}
+use Rattle.command_run.specs.Stores.{IsHeld, IsHeldAt, IsShelf, IsTold, IsToldAt, Shelf, Told, answer_for, later_told, store_of, told_answer}
 use Rattle.command_run.specs.Runs.{Run, RunEffect, RunState, asked_name, effect_of, run_from, run_on, run_told}
 use Rattle.command_run.proofs.RunSteps.{first_told, run_first, run_none}
 
@@ -30,11 +29,11 @@ shelves_more images (first ∷ more) shelf are is = (are.0, shelves_more images 
 
 -- a store that never fails
 abbrev pub any_told : Option (List (List ℕ × List ℕ)) → Told
-any_told None number = Some (λ name. Err fetch_fault.Missing)
+any_told None number = Some (λ name. Err no_image.Missing)
 any_told (Some images) number = Some (fetch_answer images)
 
 pub any_held : (images : Option (List (List ℕ × List ℕ))) → IsHeld images (any_told images)
-any_held None number = λ name. tt
+any_held None number = tt
 any_held (Some images) number = refl
 
 -- and one that fails at its next command
@@ -63,10 +62,10 @@ module _ (images : Option (List (List ℕ × List ℕ))) (later : Told) where
   then_told (first ∷ more) are is (suc number) = then_told more are.1 is number
 
 -- what a command was told is what the store has
-pub shelf_of : (images : Option (List (List ℕ × List ℕ))) (asked : Option (List ℕ)) (answer : Answer) → IsToldFor images asked answer
+pub shelf_of : (images : Option (List (List ℕ × List ℕ))) (asked : Option (List ℕ)) (answer : ImageAnswer) → IsToldFor images asked answer
     → (shelf : Shelf) × IsShelf images shelf × (answer ≡ answer_for shelf asked)
-shelf_of None None answer is = ((λ name. Err fetch_fault.Missing), (λ name. tt), is)
-shelf_of None (Some name) answer is = ((λ other. answer), (λ other. is), refl)
+shelf_of None None answer is = ((λ name. Err no_image.Missing), tt, is)
+shelf_of None (Some name) answer is = ((λ other. answer), tt, refl)
 shelf_of (Some images) None answer is = (fetch_answer images, refl, is)
 shelf_of (Some images) (Some name) answer is = (fetch_answer images, refl, is)
 

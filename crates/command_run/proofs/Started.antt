@@ -3,29 +3,28 @@ use Rattle.std.proofs.Common.{◌≡◌, ℕ, zero, suc, Bool, true, false, cond
 use Rattle.std.specs.Prelude.{IsTrue}
 use Rattle.std.specs.Result.{result_map_both}
 use Rattle.std.proofs.lemmas.Option.{none-some, same_Some}
-use Rattle.rp_io.specs.declared.faults.FetchFault.TheVariants as fetch_fault
+use Rattle.rp_io.specs.Images.{ImageAnswer, IsToldFor}
+use Rattle.rp_io.specs.declared.faults.NoImage.TheVariants as no_image
 use Rattle.crash_recover.specs.declared.core_answers.Start.{Start}
-use Rattle.crash_recover.specs.declared.core_faults.CoreFault.{CoreFault}
+use Rattle.crash_recover.specs.declared.core_faults.StartFault.{StartFault}
 use Rattle.crash_recover.specs.Cores.{CoreOutcome, CoreState}
-use Rattle.crash_recover.specs.CoreBoots.{Found}
 use Rattle.command_run.specs.declared.fetches.FoundImage.{FoundImage}
 use Rattle.command_run.specs.declared.starts.Rest.{Rest}
-use Rattle.command_run.specs.declared.faults.StoreFault.{StoreFault}
-use Rattle.command_run.specs.declared.faults.StoreFault.TheVariants as store_fault
+use Rattle.rp_io.specs.declared.faults.StoreFault.{StoreFault}
+use Rattle.rp_io.specs.declared.faults.StoreFault.TheVariants as store_fault
 use Rattle.link_commands.specs.declared.acts.StartAct.{StartAct}
 use Rattle.link_commands.specs.declared.stops.Stop.{Stop}
 use Rattle.command_run.specs.CoreCommands.{core_act_effect, core_effect}
 use Rattle.command_run.specs.CoreEffects.{core_tells_all}
 use Rattle.command_run.specs.CoreLives.{found_image, start_effect, start_events, start_name, start_with, started_effect}
 use Rattle.command_run.specs.Faults.{store_command_fault}
-use Rattle.command_run.specs.Fetches.{DidTold, IsToldFor, RunsTold}
+use Rattle.command_run.specs.Fetches.{DidTold, RunsTold}
 use Rattle.link_commands.specs.Logs.{LogState}
 use Rattle.command_run.specs.Outcomes.{HandsRunEffect, HasCoreEffect, HasRunEffect}
 use Rattle.command_run.specs.NamedCores.{NamedCoreState}
 use Rattle.command_run.specs.NamedImages.{ImageState}
 use Rattle.command_run.specs.Runs.{ObjectsState, RunEffect, RunState, asked_name, core_named, core_place, act_asks, core_act, effect_of, line_effect, name_effect, outside_image, place_of, core_effect_at, start_image, start_needs}
 use Rattle.command_run.specs.Starts.{DidStart, IsImageOf, StartsOver, start_of}
-use Rattle.command_run.specs.Stores.{Answer}
 use Rattle.link_commands.specs.Acts.{line_of as line_of_command}
 use Rattle.link_commands.specs.declared.acts.CoreAct.{CoreAct}
 use Rattle.link_commands.specs.declared.acts.CoreAct.TheVariants as core
@@ -47,31 +46,31 @@ asks_outside : (start : StartAct) (made : List ImageState) (named : NamedCoreSta
 asks_outside start made named needed = ap (λ (needs : Bool). cond needs (outside_image made (start_name start named)) None) needed
 
 -- a start that went on with what was found
-pub went_on : (start : StartAct) (rest : Rest) (core left : CoreState) (found given : Found) (outcome : CoreOutcome Start CoreFault) → start ≡ start_of rest → left ≡ core → given ≡ found
+pub went_on : (start : StartAct) (rest : Rest) (core left : CoreState) (found given : ImageAnswer) (outcome : CoreOutcome Start StartFault) → start ≡ start_of rest → left ≡ core → given ≡ found
     → start_with (start_of rest) left given ≡ outcome → start_with start core found ≡ outcome
 went_on start rest core left found given outcome is same there did =
     ap (λ (one : StartAct). start_with one core found) is ∙ sym (ap (λ (k : CoreState). start_with (start_of rest) k found) same) ∙ sym (ap (start_with (start_of rest) left) there) ∙ did
 
 -- on the core of a name, with the image of a name
 module _ (start : StartAct) (made : List ImageState) (name : List ℕ) (core : CoreState) (named : NamedCoreState) (is : record { name = name; core = core } ≡ named) (image : List ℕ) (called : image ≡ start_name start named)
-    (now left : CoreState) (started : Result Start CoreFault) (before after : LogState) (ending : Option Stop) (told : HasCoreEffect (core_tells_all now before.steps (start_events name image started)) left before after ending) where
+    (now left : CoreState) (started : Result Start StartFault) (before after : LogState) (ending : Option Stop) (told : HasCoreEffect (core_tells_all now before.steps (start_events name image started)) left before after ending) where
   -- the core answered so, and that was told
-  pub did_over : (answer : Answer) → start_with start core (found_image made answer image) ≡ record { core = now; answer = started }
+  pub did_over : (answer : ImageAnswer) → start_with start core (found_image made answer image) ≡ record { core = now; answer = started }
       → HasCoreEffect (started_effect start made answer named before.steps) left before after ending
   unfolding started_effect
   did_over answer did =
       subst (λ (n : NamedCoreState). HasCoreEffect (start_effect n.name (start_name start named) before.steps (start_with start n.core (found_image made answer (start_name start named)))) left before after ending) is
       (subst (λ (asked : List ℕ). HasCoreEffect (start_effect name asked before.steps (start_with start core (found_image made answer asked))) left before after ending) called
-      (subst (λ (outcome : CoreOutcome Start CoreFault). HasCoreEffect (start_effect name image before.steps outcome) left before after ending) (sym did) told))
+      (subst (λ (outcome : CoreOutcome Start StartFault). HasCoreEffect (start_effect name image before.steps outcome) left before after ending) (sym did) told))
 
   module _ (images : Option (List (List ℕ × List ℕ))) where
     -- without an image
-    pub did_without : start_needs start core ≡ false → ((found : Found) → start_with start core found ≡ record { core = now; answer = started }) → DidStart images start made named left before after ending
+    pub did_without : start_needs start core ≡ false → ((found : ImageAnswer) → start_with start core found ≡ record { core = now; answer = started }) → DidStart images start made named left before after ending
     did_without unneeded did = record {
-      answer = Err fetch_fault.Missing;
-      is = subst (λ (asked : Option (List ℕ)). IsToldFor images asked (Err fetch_fault.Missing))
+      answer = Err no_image.Missing;
+      is = subst (λ (asked : Option (List ℕ)). IsToldFor images asked (Err no_image.Missing))
           (sym (asks_none start made named (ap (λ (n : NamedCoreState). start_needs start n.core) (sym is) ∙ unneeded))) refl;
-      did = did_over (Err fetch_fault.Missing) (did (found_image made (Err fetch_fault.Missing) image));
+      did = did_over (Err no_image.Missing) (did (found_image made (Err no_image.Missing) image));
     }
 
     -- with the one that was looked for
@@ -98,26 +97,26 @@ on_core (line.On name (under.Show shown)) called act is = absurd (none-some (cal
 on_core (line.On name (under.Core asked)) called act is = ap (λ (p : List ℕ × CoreAct). line.On p.0 (under.Core p.1)) (same_Some (name, asked) (called, act) is)
 
 -- a command that is an act on a core
-pub core_line : (answer : Answer) (run : RunState) (asking : Command) (called : List ℕ) (act : CoreAct) → core_act (line_of_command asking) ≡ Some (called, act)
+pub core_line : (answer : ImageAnswer) (run : RunState) (asking : Command) (called : List ℕ) (act : CoreAct) → core_act (line_of_command asking) ≡ Some (called, act)
     → effect_of answer run asking ≡ name_effect answer run called (under.Core act)
 unfolding effect_of
 core_line answer run asking called act is = ap (line_effect answer run) (on_core (line_of_command asking) called act is)
 
 -- an act that is a start, on a core
-start_on_core : (made : List ImageState) (answer : Answer) (is_quiet : Bool) (named : NamedCoreState) (steps : ℕ) (start : StartAct)
+start_on_core : (made : List ImageState) (answer : ImageAnswer) (is_quiet : Bool) (named : NamedCoreState) (steps : ℕ) (start : StartAct)
     → core_effect made answer is_quiet named steps (under.Core (core.Start start)) ≡ started_effect start made answer named steps
 unfolding core_effect core_act_effect
 start_on_core made answer is_quiet named steps start = refl
 
 -- what a command did over what was told, and handed on nothing
-pub told_run : (images : Option (List (List ℕ × List ℕ))) (run : RunState) (asking : Command) (left : ObjectsState) (before after : LogState) (written : Option (List ℕ)) (ending : Option Stop) (answer : Answer)
+pub told_run : (images : Option (List (List ℕ × List ℕ))) (run : RunState) (asking : Command) (left : ObjectsState) (before after : LogState) (written : Option (List ℕ)) (ending : Option Stop) (answer : ImageAnswer)
     → IsToldFor images (asked_name run.objects asking) answer → HasRunEffect (effect_of answer run asking) left before after ending → DidTold images run asking left before after written written ending
 told_run images run asking left before after written ending answer is did =
     let shelf = shelf_of images (asked_name run.objects asking) answer is in
     record {
       shelf = shelf.0;
       is = shelf.1;
-      did = subst (λ (a : Answer). HandsRunEffect (effect_of a run asking) left before after written written ending) shelf.2 (kept_run (effect_of answer run asking) left before after written ending did);
+      did = subst (λ (a : ImageAnswer). HandsRunEffect (effect_of a run asking) left before after written written ending) shelf.2 (kept_run (effect_of answer run asking) left before after written ending did);
     }
 
 -- what stands at a place, written there again
@@ -137,12 +136,12 @@ module _ (images : Option (List (List ℕ × List ℕ))) (run : RunState) (askin
     abbrev left_so : ObjectsState
     left_so = record run.objects { cores = slice_set run.objects.cores place now }
 
-    placed_so : (answer : Answer) → effect_of answer run asking ≡ core_effect_at run place named (started_effect start run.objects.images answer named run.steps)
+    placed_so : (answer : ImageAnswer) → effect_of answer run asking ≡ core_effect_at run place named (started_effect start run.objects.images answer named run.steps)
     placed_so answer =
         core_line answer run asking called (core.Start start) asks ∙ effect_on_bare_core answer run called (under.Core (core.Start start)) place named none placed there
         ∙ ap (core_effect_at run place named) (start_on_core run.objects.images answer run.objects.is_quiet named run.steps start)
 
-    did_so : (answer : Answer) (ending : Option Stop) → HasCoreEffect (started_effect start run.objects.images answer named before.steps) now.core before after ending
+    did_so : (answer : ImageAnswer) (ending : Option Stop) → HasCoreEffect (started_effect start run.objects.images answer named before.steps) now.core before after ending
         → HasRunEffect (effect_of answer run asking) left_so before after ending
     did_so answer ending did =
         let effect = started_effect start run.objects.images answer named run.steps in
@@ -174,14 +173,14 @@ module _ (images : Option (List (List ℕ × List ℕ))) (run : RunState) (askin
 
   -- on no core
   pub nobody_told : (left : ObjectsState) (ending : Option Stop) → core_named run.objects called ≡ None → then ≡ was
-      → HasRunEffect (name_effect (Err fetch_fault.Missing) run called (under.Core (core.Start start))) left before after ending
+      → HasRunEffect (name_effect (Err no_image.Missing) run called (under.Core (core.Start start))) left before after ending
       → RunsTold (Ok ending) images run asking left before after written written faults faults was then
   nobody_told left ending nobody same did =
       let none : asked_name run.objects asking ≡ None =
       ap (act_asks run.objects) asks ∙ ap (start_image start run.objects.images) nobody in (
-        told_run images run asking left before after written ending (Err fetch_fault.Missing)
-            (subst (λ (asked : Option (List ℕ)). IsToldFor images asked (Err fetch_fault.Missing)) (sym none) refl)
-            (subst (λ (e : RunEffect). HasRunEffect e left before after ending) (sym (core_line (Err fetch_fault.Missing) run asking called (core.Start start) asks)) did),
+        told_run images run asking left before after written ending (Err no_image.Missing)
+            (subst (λ (asked : Option (List ℕ)). IsToldFor images asked (Err no_image.Missing)) (sym none) refl)
+            (subst (λ (e : RunEffect). HasRunEffect e left before after ending) (sym (core_line (Err no_image.Missing) run asking called (core.Start start) asks)) did),
         refl,
         same,
       )

@@ -1,5 +1,6 @@
 -- What an act under the name of a core does: a region, a driver and the switch of recovery by definitions here, the other acts by those of the files beside this one (own).
 use Rattle.std.specs.Prelude.{ℕ, Bool, true, false, List, [], ◌∷◌, ◌++◌, length, Option, Some, None, unwrap_or}
+use Rattle.rp_io.specs.Images.{ImageAnswer}
 use Rattle.rp_base.specs.declared.kinds.DriverKind.{DriverKind}
 use Rattle.rp_base.specs.declared.kinds.Switch.{Switch}
 use Rattle.rp_base.specs.declared.kinds.Switch.TheVariants as switch
@@ -16,7 +17,6 @@ use Rattle.link_commands.specs.declared.acts.NamedAct.{NamedAct}
 use Rattle.link_commands.specs.declared.acts.NamedAct.TheVariants as under
 use Rattle.command_run.specs.NamedCores.{NamedCoreState}
 use Rattle.command_run.specs.NamedImages.{ImageState}
-use Rattle.command_run.specs.Stores.{Answer}
 use Rattle.command_run.specs.CoreEffects.{CoreEffect, core_tells, core_tells_all}
 use Rattle.command_run.specs.CoreLinks.{core_link_effect, link_view_events}
 use Rattle.command_run.specs.CoreDrives.{drive_effect}
@@ -61,7 +61,7 @@ recovery_effect name core steps set =
     core_tells (record core { life = record core.life { recovery = is_on set } }) steps (event.Recovery name set)
 
 -- an act on a core, over the images that the script made, what the store tells of the one that is asked for, and whether drives are quiet
-unfoldable pub core_act_effect : List ImageState → Answer → Bool → NamedCoreState → ℕ → CoreAct → CoreEffect
+unfoldable pub core_act_effect : List ImageState → ImageAnswer → Bool → NamedCoreState → ℕ → CoreAct → CoreEffect
 core_act_effect images answer is_quiet on steps (core.Region region) = region_effect on.name on.core steps region
 core_act_effect images answer is_quiet on steps (core.Driver channel kind) = driver_effect on.name on.core steps channel kind
 core_act_effect images answer is_quiet on steps (core.Start start) = started_effect start images answer on steps
@@ -73,7 +73,7 @@ core_act_effect images answer is_quiet on steps (core.Recovery set) = recovery_e
 core_act_effect images answer is_quiet on steps (core.Drive count) = drive_effect on.name is_quiet on.core steps count
 
 -- what is done under the name of a core; its link has no manager but the core
-unfoldable pub core_effect : List ImageState → Answer → Bool → NamedCoreState → ℕ → NamedAct (List ℕ) → CoreEffect
+unfoldable pub core_effect : List ImageState → ImageAnswer → Bool → NamedCoreState → ℕ → NamedAct (List ℕ) → CoreEffect
 core_effect images answer is_quiet on steps (under.Make made) = core_tells on.core steps (event.Exists on.name)
 core_effect images answer is_quiet on steps (under.Link asked) = core_link_effect on.name on.core steps asked on.core.bench
 core_effect images answer is_quiet on steps (under.Manage managed) = core_tells on.core steps (event.Unknown on.name)

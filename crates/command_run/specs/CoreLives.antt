@@ -1,8 +1,9 @@
 -- What a boot, a handover, a recovery, a shutdown, a detach and a crash report of a core leave of it and tell (own).
 use Rattle.std.specs.Prelude.{ℕ, ◌+◌, ◌==◌, Bool, not, nat_le, length, List, [], ◌∷◌, Option, Some, None, unwrap_or, find, bytes_eq, option_map, Result, Ok, Err, if◌then◌else◌}
+use Rattle.rp_io.specs.Images.{ImageAnswer}
 use Rattle.rp_base.specs.declared.limits.TheConstants.{IMAGE_MOST, STEPS_MOST}
 use Rattle.rp_base.specs.declared.kinds.CrashKind.{CrashKind}
-use Rattle.rp_io.specs.declared.faults.FetchFault.TheVariants as fetch
+use Rattle.rp_io.specs.declared.faults.NoImage.TheVariants as no_image
 use Rattle.fw_load.specs.declared.faults.LoadFault.{LoadFault}
 use Rattle.fw_load.specs.Faults.{load_fault_index, load_fault_number}
 use Rattle.proc_state.specs.declared.answers.LifeFault.{LifeFault}
@@ -16,11 +17,13 @@ use Rattle.crash_recover.specs.declared.core_answers.Leave.{Leave}
 use Rattle.crash_recover.specs.declared.core_answers.Leave.TheVariants as leave
 use Rattle.crash_recover.specs.declared.core_answers.Start.{Start}
 use Rattle.crash_recover.specs.declared.core_answers.Start.TheVariants as start
-use Rattle.crash_recover.specs.declared.core_faults.CoreFault.{CoreFault}
-use Rattle.crash_recover.specs.declared.core_faults.CoreFault.TheVariants as fault
+use Rattle.crash_recover.specs.declared.core_faults.StartFault.{StartFault}
+use Rattle.crash_recover.specs.declared.core_faults.StartFault.TheVariants as start_fault
+use Rattle.crash_recover.specs.declared.core_faults.LeaveFault.{LeaveFault}
+use Rattle.crash_recover.specs.declared.core_faults.LeaveFault.TheVariants as leave_fault
 use Rattle.crash_recover.specs.declared.core_faults.TheConstants.{CALLER_OUT, RINGS_CHANGED}
 use Rattle.crash_recover.specs.Cores.{CoreOutcome, CoreState}
-use Rattle.crash_recover.specs.CoreBoots.{Found, boot_of, handover_of}
+use Rattle.crash_recover.specs.CoreBoots.{boot_of, handover_of}
 use Rattle.crash_recover.specs.CoreCrashes.{report_of}
 use Rattle.crash_recover.specs.CoreLeaves.{detach_of, shutdown_of}
 use Rattle.crash_recover.specs.CoreRecoveries.{recovery_of}
@@ -30,7 +33,6 @@ use Rattle.link_commands.specs.declared.stops.Stop.{Stop}
 use Rattle.link_commands.specs.declared.stops.Stop.TheVariants as stop
 use Rattle.command_run.specs.NamedCores.{NamedCoreState}
 use Rattle.command_run.specs.NamedImages.{ImageState}
-use Rattle.command_run.specs.Stores.{Answer}
 use Rattle.link_commands.specs.Recoveries.{reopen_events}
 use Rattle.command_run.specs.CoreEffects.{CoreEffect, core_tells_all}
 
@@ -48,18 +50,19 @@ life_fault_event name why = event.Fault name (fault_number why)
 abbrev pub load_fault_event : List ℕ → LoadFault → Event
 load_fault_event name why = fault_at name (unwrap_or (load_fault_number why) 0) (load_fault_index why)
 
--- why the image of a name is not booted, or something else is refused (a store that fails and want of memory are told by no line of a core, and end the run)
-abbrev pub core_fault_events : List ℕ → List ℕ → CoreFault → List Event
-core_fault_events name image (fault.Fetch fetch.Missing) = event.Missing name image ∷ []
-core_fault_events name image (fault.Fetch (fetch.TooLarge bytes)) = event.TooLarge name image ∷ []
-core_fault_events name image (fault.Fetch fetch.Failed) = []
-core_fault_events name image (fault.Fetch fetch.NoMemory) = []
-core_fault_events name image (fault.Load why) = load_fault_event name why ∷ []
-core_fault_events name image (fault.Life why) = life_fault_event name why ∷ []
-core_fault_events name image fault.RingsChanged = event.Fault name RINGS_CHANGED ∷ []
-core_fault_events name image (fault.CallerOut caller) = event.FaultAt name CALLER_OUT caller ∷ []
-core_fault_events name image (fault.Reopen why) = reopen_events name why
-core_fault_events name image fault.NoMemory = []
+-- why a core is not started with the image of a name
+abbrev pub start_fault_events : List ℕ → List ℕ → StartFault → List Event
+start_fault_events name image (start_fault.NoImage no_image.Missing) = event.Missing name image ∷ []
+start_fault_events name image (start_fault.NoImage (no_image.TooLarge bytes)) = event.TooLarge name image ∷ []
+start_fault_events name image (start_fault.Load why) = load_fault_event name why ∷ []
+start_fault_events name image (start_fault.Life why) = life_fault_event name why ∷ []
+start_fault_events name image start_fault.RingsChanged = event.Fault name RINGS_CHANGED ∷ []
+start_fault_events name image (start_fault.Reopen why) = reopen_events name why
+
+-- why a user doesn't leave a core
+abbrev pub leave_fault_event : List ℕ → LeaveFault → Event
+leave_fault_event name (leave_fault.Life why) = life_fault_event name why
+leave_fault_event name (leave_fault.CallerOut caller) = event.FaultAt name CALLER_OUT caller
 
 -- what a start of a core was
 abbrev pub start_event : List ℕ → Start → Event
@@ -69,11 +72,11 @@ start_event name (start.Users users) = event.Users name users
 start_event name start.Detached = event.Detached name
 
 -- the same with an image of this name, or why there was none
-abbrev pub start_events : List ℕ → List ℕ → Result Start CoreFault → List Event
+abbrev pub start_events : List ℕ → List ℕ → Result Start StartFault → List Event
 start_events name image (Ok started) = start_event name started ∷ []
-start_events name image (Err why) = core_fault_events name image why
+start_events name image (Err why) = start_fault_events name image why
 
-abbrev pub start_effect : List ℕ → List ℕ → ℕ → CoreOutcome Start CoreFault → CoreEffect
+abbrev pub start_effect : List ℕ → List ℕ → ℕ → CoreOutcome Start StartFault → CoreEffect
 start_effect name image steps outcome = core_tells_all outcome.core steps (start_events name image outcome.answer)
 
 -- the bytes of the first image of this name
@@ -81,16 +84,16 @@ abbrev pub image_bytes : List ImageState → List ℕ → Option (List ℕ)
 image_bytes images name = option_map (λ (image : ImageState). image.bytes) (find (λ image. bytes_eq image.name name) images)
 
 -- an image that the script made, unless it is longer than an image may be
-abbrev pub made_image : List ℕ → Answer
-made_image bytes = if nat_le (length bytes) IMAGE_MOST then Ok bytes else Err (fetch.TooLarge (length bytes))
+abbrev pub made_image : List ℕ → ImageAnswer
+made_image bytes = if nat_le (length bytes) IMAGE_MOST then Ok bytes else Err (no_image.TooLarge (length bytes))
 
 -- the same, or what the store tells
-abbrev pub found_or_told : Answer → Option (List ℕ) → Answer
+abbrev pub found_or_told : ImageAnswer → Option (List ℕ) → ImageAnswer
 found_or_told answer (Some bytes) = made_image bytes
 found_or_told answer None = answer
 
 -- the image of this name: the script's, or else what the store tells
-abbrev pub found_image : List ImageState → Answer → List ℕ → Answer
+abbrev pub found_image : List ImageState → ImageAnswer → List ℕ → ImageAnswer
 found_image images answer image = found_or_told answer (image_bytes images image)
 
 -- the name of the image that a core was booted or handed over with (one that has none is offline, and not recovered)
@@ -104,13 +107,13 @@ start_name (starts.Handover image) on = image
 start_name starts.Recover on = booted_image on.name on.core
 
 -- a start with that image
-abbrev pub start_with : StartAct → CoreState → Found → CoreOutcome Start CoreFault
+abbrev pub start_with : StartAct → CoreState → ImageAnswer → CoreOutcome Start StartFault
 start_with (starts.Boot image) core found = boot_of core image found
 start_with (starts.Handover image) core found = handover_of core image found
 start_with starts.Recover core found = recovery_of core found
 
 -- `boot X IMAGE`, `handover X IMAGE`, `recover X`
-unfoldable pub started_effect : StartAct → List ImageState → Answer → NamedCoreState → ℕ → CoreEffect
+unfoldable pub started_effect : StartAct → List ImageState → ImageAnswer → NamedCoreState → ℕ → CoreEffect
 started_effect start images answer on steps =
     let image = start_name start on in
     start_effect on.name image steps (start_with start on.core (found_image images answer image))
@@ -120,24 +123,24 @@ abbrev pub core_stops : CoreState → ℕ → CoreEffect
 core_stops core steps = record { core = core; steps = steps; events = []; ending = Some stop.StepLimit }
 
 -- what the leave of a user tells, with this event where it was the last
-abbrev pub leave_events : List ℕ → Event → Result Leave CoreFault → List Event
+abbrev pub leave_events : List ℕ → Event → Result Leave LeaveFault → List Event
 leave_events name last (Ok (leave.Users users)) = event.Users name users ∷ []
 leave_events name last (Ok (leave.Last None)) = last ∷ []
 leave_events name last (Ok (leave.Last (Some inc))) = event.Closed name inc ∷ last ∷ []
 leave_events name last (Ok leave.Limit) = []
-leave_events name last (Err why) = core_fault_events name name why
+leave_events name last (Err why) = leave_fault_event name why ∷ []
 
 -- how many steps were done then: the close of a link is one
-abbrev pub leave_steps : ℕ → Result Leave CoreFault → ℕ
+abbrev pub leave_steps : ℕ → Result Leave LeaveFault → ℕ
 leave_steps steps (Ok (leave.Last (Some inc))) = steps + 1
 leave_steps steps other = steps
 
 -- whether the run ends there
-abbrev pub leave_ending : Result Leave CoreFault → Option Stop
+abbrev pub leave_ending : Result Leave LeaveFault → Option Stop
 leave_ending (Ok leave.Limit) = Some stop.StepLimit
 leave_ending other = None
 
-abbrev pub leave_effect : List ℕ → Event → ℕ → CoreOutcome Leave CoreFault → CoreEffect
+abbrev pub leave_effect : List ℕ → Event → ℕ → CoreOutcome Leave LeaveFault → CoreEffect
 leave_effect name last steps outcome = record {
   core = outcome.core;
   steps = leave_steps steps outcome.answer;

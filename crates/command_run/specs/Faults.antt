@@ -3,8 +3,8 @@ use Rattle.command_run.specs.declared.faults.CommandFault.{CommandFault}
 use Rattle.command_run.specs.declared.faults.CommandFault.TheVariants as command_fault
 use Rattle.command_run.specs.declared.faults.OutputFault.{OutputFault}
 use Rattle.command_run.specs.declared.faults.OutputFault.TheVariants as output_fault
-use Rattle.command_run.specs.declared.faults.StoreFault.{StoreFault}
-use Rattle.command_run.specs.declared.faults.StoreFault.TheVariants as store_fault
+use Rattle.rp_io.specs.declared.faults.StoreFault.{StoreFault}
+use Rattle.rp_io.specs.declared.faults.StoreFault.TheVariants as store_fault
 
 -- an image was not fetched
 abbrev pub store_command_fault : StoreFault → CommandFault

@@ -1,9 +1,8 @@
 -- What code was told of the image that a command asks for (own).
-use Rattle.std.specs.Prelude.{◌≡◌, ℕ, List, ◌++◌, Option, Some, None, IfSome, is_some, IsTrue, Result, Ok, Err}
-use Rattle.rp_io.specs.declared.faults.FetchFault.TheVariants as fetch_fault
+use Rattle.std.specs.Prelude.{◌≡◌, ℕ, List, ◌++◌, Option, IfSome, is_some, IsTrue, Result, Ok, Err}
+use Rattle.rp_io.specs.declared.faults.NoImage.TheVariants as no_image
 use Rattle.rp_io.specs.Causes.{Rose}
 use Rattle.rp_io.specs.Contents.{AppendsFront}
-use Rattle.rp_io.specs.Images.{fetch_answer}
 use Rattle.script_lang.specs.declared.commands.Command.{Command}
 use Rattle.script_lang.specs.declared.recipes.RecipeLine.{RecipeLine}
 use Rattle.journal.specs.Lines.{transcript}
@@ -11,41 +10,16 @@ use Rattle.command_run.specs.declared.faults.CommandFault.{CommandFault}
 use Rattle.command_run.specs.declared.faults.CommandFault.TheVariants as command_fault
 use Rattle.command_run.specs.declared.faults.OutputFault.{OutputFault}
 use Rattle.command_run.specs.declared.faults.OutputFault.TheVariants as output_fault
-use Rattle.command_run.specs.declared.faults.StoreFault.{StoreFault}
-use Rattle.command_run.specs.declared.faults.StoreFault.TheVariants as store_fault
-use Rattle.command_run.specs.declared.fetches.Fetched.{Fetched}
-use Rattle.command_run.specs.declared.fetches.Fetched.TheVariants as fetched
 use Rattle.link_commands.specs.declared.acts.CoreAct.TheVariants as core
 use Rattle.link_commands.specs.declared.acts.Line.{Line}
 use Rattle.link_commands.specs.declared.acts.Line.TheVariants as line
 use Rattle.link_commands.specs.declared.acts.NamedAct.TheVariants as under
 use Rattle.link_commands.specs.declared.stops.Stop.{Stop}
 use Rattle.link_commands.specs.Acts.{line_of}
-use Rattle.command_run.specs.Stores.{Answer, IsAnswer, IsShelf, Shelf, answer_for}
+use Rattle.command_run.specs.Stores.{IsShelf, Shelf, answer_for}
 use Rattle.command_run.specs.Runs.{ObjectsState, RunState, asked_name, core_named, effect_of, line_effect}
 use Rattle.link_commands.specs.Logs.{KeepsLess, LogState}
 use Rattle.command_run.specs.Outcomes.{CutsRun, HandsRunEffect, KeepsWhole}
-
--- what was told
-abbrev pub answer_of : Fetched → Answer
-answer_of fetched.Missing = Err fetch_fault.Missing
-answer_of (fetched.TooLarge bytes) = Err (fetch_fault.TooLarge bytes)
-answer_of (fetched.Found image) = Ok image.items
-
--- where told: what the store has under this name
-abbrev pub IsToldUnder : Option (List (List ℕ × List ℕ)) → List ℕ → Answer → Type 0
-IsToldUnder None name answer = IsAnswer answer
-IsToldUnder (Some images) name answer = answer ≡ fetch_answer images name
-
--- what is told of the image that is asked for, if one is
-abbrev pub IsToldFor : Option (List (List ℕ × List ℕ)) → Option (List ℕ) → Answer → Type 0
-IsToldFor images None answer = answer ≡ Err fetch_fault.Missing
-IsToldFor images (Some name) answer = IsToldUnder images name answer
-
--- why nothing was told, by the count of the store's faults
-abbrev pub IsFetchFault : StoreFault → ℕ → ℕ → Type 0
-IsFetchFault store_fault.Failed before now = Rose before now
-IsFetchFault store_fault.NoMemory before now = now ≡ before
 
 -- a command did what it does over what the store has, and some lines were handed on meanwhile
 pub record DidTold (images : Option (List (List ℕ × List ℕ))) (run : RunState) (command : Command) (left : ObjectsState) (before after : LogState) (written now : Option (List ℕ)) (answer : Option Stop) : Type 0 where
@@ -77,12 +51,12 @@ pub record IsCutCommand (run : RunState) (asked : Command) (left : ObjectsState)
   pub name : List ℕ
   pub count : ℕ
   pub is : line_of asked ≡ drive_line name count
-  pub cut : CutsRun (λ done. line_effect (Err fetch_fault.Missing) run (drive_line name done)) count left before.lines written now
+  pub cut : CutsRun (λ done. line_effect (Err no_image.Missing) run (drive_line name done)) count left before.lines written now
 
 -- the lines that are kept behind a drive of a core: with less than a piece kept before it, they are few, however long it was
 abbrev pub KeepsDriven : RunState → List ℕ → ℕ → LogState → List ℕ → Type 0
 KeepsDriven run name count before lines =
-    IfSome (core_named run.objects name) (λ _. KeepsLess before → KeepsWhole (λ done. (line_effect (Err fetch_fault.Missing) run (drive_line name done)).events) count lines)
+    IfSome (core_named run.objects name) (λ _. KeepsLess before → KeepsWhole (λ done. (line_effect (Err no_image.Missing) run (drive_line name done)).events) count lines)
 
 -- the same of a command, if it is a drive
 abbrev pub KeepsDrive : RunState → Command → LogState → List ℕ → Type 0

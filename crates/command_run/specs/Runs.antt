@@ -1,7 +1,7 @@
 -- The run of a script: what each command leaves and tells, from nothing on (own).
 use Rattle.std.specs.Prelude.{◌≡◌, ℕ, Bool, true, false, is_none, is_some, ◌+◌, nat_le, find, List, [], ◌∷◌, ◌++◌, length, slice_get, slice_set, Option, Some, None, Result, Ok, Err, bytes_eq, if◌then◌else◌}
 use Rattle.std.specs.List.{position}
-use Rattle.std.specs.Str.{is_utf8}
+use Rattle.rp_io.specs.Images.{ImageAnswer, text_name}
 use Rattle.rp_base.specs.declared.limits.TheConstants.{OBJECTS_MOST}
 use Rattle.rp_base.specs.declared.kinds.Switch.{Switch}
 use Rattle.lane_model.specs.declared.calls.LinkConfig.{LinkConfig}
@@ -14,8 +14,8 @@ use Rattle.link_commands.specs.declared.stops.Stop.{Stop}
 use Rattle.link_commands.specs.NamedLinks.{NamedLink}
 use Rattle.command_run.specs.NamedCores.{NamedCoreState}
 use Rattle.command_run.specs.NamedImages.{ImageState}
-use Rattle.rp_io.specs.declared.faults.FetchFault.TheVariants as fetch
-use Rattle.command_run.specs.Stores.{Answer, Told, later_told, told_answer}
+use Rattle.rp_io.specs.declared.faults.NoImage.TheVariants as no_image
+use Rattle.command_run.specs.Stores.{Told, later_told, told_answer}
 use Rattle.command_run.specs.CoreEffects.{CoreEffect}
 use Rattle.command_run.specs.CoreCommands.{core_effect, is_on}
 use Rattle.command_run.specs.CoreLives.{start_name}
@@ -138,31 +138,31 @@ core_effect_at run place named effect = record {
 }
 
 -- an act on the core at this place, or on none
-abbrev pub effect_of_core : Answer → RunState → List ℕ → NamedAct (List ℕ) → ℕ → Option NamedCoreState → RunEffect
+abbrev pub effect_of_core : ImageAnswer → RunState → List ℕ → NamedAct (List ℕ) → ℕ → Option NamedCoreState → RunEffect
 effect_of_core answer run name act place None = unnamed_effect run name act
 effect_of_core answer run name act place (Some on) = core_effect_at run place on (core_effect run.objects.images answer run.objects.is_quiet on run.steps act)
 
 -- an act on the core of its name, or on none
-abbrev pub effect_by_core_place : Answer → RunState → List ℕ → NamedAct (List ℕ) → Option ℕ → RunEffect
+abbrev pub effect_by_core_place : ImageAnswer → RunState → List ℕ → NamedAct (List ℕ) → Option ℕ → RunEffect
 effect_by_core_place answer run name act None = unnamed_effect run name act
 effect_by_core_place answer run name act (Some place) = effect_of_core answer run name act place (slice_get run.objects.cores place)
 
 -- an act under a name that no link has
-unfoldable pub without_link_effect : Answer → RunState → List ℕ → NamedAct (List ℕ) → RunEffect
+unfoldable pub without_link_effect : ImageAnswer → RunState → List ℕ → NamedAct (List ℕ) → RunEffect
 without_link_effect answer run name act = effect_by_core_place answer run name act (core_place run.objects.cores name)
 
 -- an act on the link at this place, or on none
-abbrev pub effect_of_link : Answer → RunState → List ℕ → NamedAct (List ℕ) → ℕ → Option NamedLink → RunEffect
+abbrev pub effect_of_link : ImageAnswer → RunState → List ℕ → NamedAct (List ℕ) → ℕ → Option NamedLink → RunEffect
 effect_of_link answer run name act place None = without_link_effect answer run name act
 effect_of_link answer run name act place (Some on) = link_effect_at run place on (link_effect on run.steps act)
 
 -- an act on the link of its name, or on none
-abbrev pub effect_by_link_place : Answer → RunState → List ℕ → NamedAct (List ℕ) → Option ℕ → RunEffect
+abbrev pub effect_by_link_place : ImageAnswer → RunState → List ℕ → NamedAct (List ℕ) → Option ℕ → RunEffect
 effect_by_link_place answer run name act None = without_link_effect answer run name act
 effect_by_link_place answer run name act (Some place) = effect_of_link answer run name act place (slice_get run.objects.links place)
 
 -- an act under a name
-unfoldable pub name_effect : Answer → RunState → List ℕ → NamedAct (List ℕ) → RunEffect
+unfoldable pub name_effect : ImageAnswer → RunState → List ℕ → NamedAct (List ℕ) → RunEffect
 name_effect answer run name act = effect_by_link_place answer run name act (place_of run.objects.links name)
 
 -- the place of the image of this name
@@ -213,19 +213,19 @@ unfoldable pub quiet_effect : RunState → Switch → RunEffect
 quiet_effect run set = record { run = record run { objects = record run.objects { is_quiet = is_on set } }; events = []; ending = None }
 
 -- what a command is about
-abbrev pub line_effect : Answer → RunState → Line (List RecipeLine) (List ℕ) → RunEffect
+abbrev pub line_effect : ImageAnswer → RunState → Line (List RecipeLine) (List ℕ) → RunEffect
 line_effect answer run (line.Image name lines) = image_effect run name lines
 line_effect answer run (line.Quiet set) = quiet_effect run set
 line_effect answer run (line.Dump name image) = dump_effect run name image
 line_effect answer run (line.On name act) = name_effect answer run name act
 
 -- a command, over what the store tells of the image that it asks for
-unfoldable pub effect_of : Answer → RunState → Command → RunEffect
+unfoldable pub effect_of : ImageAnswer → RunState → Command → RunEffect
 effect_of answer run command = line_effect answer run (line_of command)
 
 -- the name of an image that the script didn't make (a name is a text, by the grammar)
 abbrev pub outside_image : List ImageState → List ℕ → Option (List ℕ)
-outside_image images name = if has_image images name then None else (if is_utf8 name then Some name else None)
+outside_image images name = if has_image images name then None else text_name name
 
 -- whether a start needs an image: a boot that loads one, a handover of a core that is offline, and a recovery that the core's life doesn't refuse
 abbrev pub start_needs : StartAct → CoreState → Bool
@@ -265,7 +265,7 @@ run_on effect (Some why) later = record { events = effect.events; last = effect.
 run_on effect None later = record later { events = effect.events ++ later.events }
 
 -- a command and the later ones, where the store answers; else the run ends before the command
-abbrev pub run_told : RunState → Command → Option Answer → (RunState → Run) → Run
+abbrev pub run_told : RunState → Command → Option ImageAnswer → (RunState → Run) → Run
 run_told run command None later = record { events = []; last = run; ending = None; failed = true }
 run_told run command (Some answer) later =
     let effect = effect_of answer run command in
@@ -294,5 +294,5 @@ IfGoesOn (Some why) rest = Unit {0}
 unfoldable pub AsksNone : RunState → List Command → Type 0
 AsksNone run [] = Unit {0}
 AsksNone run (first ∷ more) =
-    let effect = effect_of (Err fetch.Missing) run first in
+    let effect = effect_of (Err no_image.Missing) run first in
     (asked_name run.objects first ≡ None) × IfGoesOn effect.ending (AsksNone effect.run more)

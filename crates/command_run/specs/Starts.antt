@@ -1,10 +1,10 @@
 -- The starts of a core that may need an image, over what a store tells of it (own).
-use Rattle.std.specs.Prelude.{◌≡◌, ◌≢◌, ℕ, true, false, List, Option, Some, None, is_some, IsTrue, Result, Ok, Err}
+use Rattle.std.specs.Prelude.{◌≡◌, ℕ, true, false, List, Option, Some, None, is_some, IsTrue, Result, Ok, Err}
+use Rattle.rp_io.specs.Images.{ImageAnswer, IsToldFor, answer_of}
 use Rattle.rp_io.specs.Causes.{Rose}
 use Rattle.proc_state.specs.Lives.{life_after_boot, life_after_handover}
-use Rattle.crash_recover.specs.declared.core_faults.CoreFault.TheVariants as core_fault
 use Rattle.crash_recover.specs.Cores.{CoreState}
-use Rattle.crash_recover.specs.CoreBoots.{Found, needs_image}
+use Rattle.crash_recover.specs.CoreBoots.{needs_image}
 use Rattle.crash_recover.specs.CoreRecoveries.{recovery_fault}
 use Rattle.link_commands.specs.declared.acts.StartAct.{StartAct}
 use Rattle.link_commands.specs.declared.acts.StartAct.TheVariants as starts
@@ -12,28 +12,26 @@ use Rattle.command_run.specs.declared.starts.Beginning.{Beginning}
 use Rattle.command_run.specs.declared.starts.Beginning.TheVariants as beginning
 use Rattle.command_run.specs.declared.starts.Rest.{Rest}
 use Rattle.command_run.specs.declared.starts.Rest.TheVariants as rest
-use Rattle.command_run.specs.declared.faults.StoreFault.{StoreFault}
-use Rattle.command_run.specs.declared.faults.StoreFault.TheVariants as store_fault
+use Rattle.rp_io.specs.declared.faults.StoreFault.{StoreFault}
+use Rattle.rp_io.specs.declared.faults.StoreFault.TheVariants as store_fault
 use Rattle.command_run.specs.declared.fetches.FoundImage.{FoundImage}
 use Rattle.command_run.specs.declared.fetches.FoundImage.TheVariants as found_image
 use Rattle.link_commands.specs.declared.stops.Stop.{Stop}
 use Rattle.command_run.specs.CoreLives.{found_image as image_of_name, made_image, start_with, started_effect}
-use Rattle.command_run.specs.Fetches.{IsToldFor, answer_of}
 use Rattle.link_commands.specs.Logs.{LogState}
 use Rattle.command_run.specs.Outcomes.{HasCoreEffect}
 use Rattle.command_run.specs.NamedCores.{NamedCoreState}
 use Rattle.command_run.specs.NamedImages.{ImageState}
 use Rattle.command_run.specs.Runs.{outside_image, start_image, start_needs}
-use Rattle.command_run.specs.Stores.{Answer}
 
 -- what is known of an image that was looked for
-abbrev pub image_answer : FoundImage → Answer
+abbrev pub image_answer : FoundImage → ImageAnswer
 image_answer (found_image.Made bytes) = made_image bytes.now
-image_answer (found_image.Told fetched) = answer_of fetched
+image_answer (found_image.Told found) = answer_of found
 
 -- it is the image of this name: the script's, or else what was told of the one that the store was asked for
 pub record IsImageOf (images : Option (List (List ℕ × List ℕ))) (made : List ImageState) (name : List ℕ) (found : FoundImage) : Type 0 where
-  pub answer : Answer
+  pub answer : ImageAnswer
   pub is : IsToldFor images (outside_image made name) answer
   pub image : image_answer found ≡ image_of_name made answer name
 
@@ -52,12 +50,12 @@ NeedsImage core rest.Recovery = recovery_fault core.life ≡ None
 -- a start as far as it comes without an image: it is done, whatever image would be found, or it is to go on with one, and nothing has changed
 abbrev pub Begins : StartAct → CoreState → CoreState → Beginning → Type 0
 Begins start core left (beginning.Done answer) =
-    answer ≢ Err core_fault.NoMemory → (start_needs start core ≡ false) × ((found : Found) → start_with start core found ≡ record { core = left; answer = answer })
+    (start_needs start core ≡ false) × ((found : ImageAnswer) → start_with start core found ≡ record { core = left; answer = answer })
 Begins start core left (beginning.NeedsImage rest) = (start ≡ start_of rest) × (start_needs start core ≡ true) × NeedsImage left rest × (left ≡ core)
 
 -- a start did what it does over what was told of the image that it asked for
 pub record DidStart (images : Option (List (List ℕ × List ℕ))) (start : StartAct) (made : List ImageState) (named : NamedCoreState) (left : CoreState) (before after : LogState) (ending : Option Stop) : Type 0 where
-  pub answer : Answer
+  pub answer : ImageAnswer
   pub is : IsToldFor images (start_image start made (Some named)) answer
   pub did : HasCoreEffect (started_effect start made answer named before.steps) left before after ending
 

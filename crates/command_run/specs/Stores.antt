@@ -1,24 +1,11 @@
 -- What a store of images tells a run (own).
-use Rattle.std.specs.Prelude.{◌≡◌, ℕ, suc, List, Option, Some, None, Result, Ok, Err}
-use Rattle.rp_io.specs.declared.faults.FetchFault.{FetchFault}
-use Rattle.rp_io.specs.declared.faults.FetchFault.TheVariants as fetch_fault
-use Rattle.rp_io.specs.Images.{fetch_answer}
-
--- what is answered under a name
-abbrev pub Answer : Type 0
-Answer = Result (List ℕ) FetchFault
-
--- an answer of a store that didn't fail and found memory
-abbrev pub IsAnswer : Answer → Type 0
-IsAnswer (Ok image) = Unit {0}
-IsAnswer (Err fetch_fault.Missing) = Unit {0}
-IsAnswer (Err fetch_fault.Failed) = ⊥
-IsAnswer (Err (fetch_fault.TooLarge bytes)) = Unit {0}
-IsAnswer (Err fetch_fault.NoMemory) = ⊥
+use Rattle.std.specs.Prelude.{◌≡◌, ℕ, suc, List, Option, Some, None, Err}
+use Rattle.rp_io.specs.declared.faults.NoImage.TheVariants as no_image
+use Rattle.rp_io.specs.Images.{ImageAnswer, fetch_answer}
 
 -- what a store has under each name
 abbrev pub Shelf : Type 0
-Shelf = List ℕ → Answer
+Shelf = List ℕ → ImageAnswer
 
 -- what a store has under each name while the command of each number runs, counted from 0; none where it fails then
 abbrev pub Told : Type 0
@@ -33,19 +20,19 @@ abbrev pub later_told : Told → Told
 later_told told number = told (suc number)
 
 -- what is told of the image that a command asks for; nothing, as of one that is missing, where it asks for none
-abbrev pub answer_for : Shelf → Option (List ℕ) → Answer
-answer_for shelf None = Err fetch_fault.Missing
+abbrev pub answer_for : Shelf → Option (List ℕ) → ImageAnswer
+answer_for shelf None = Err no_image.Missing
 answer_for shelf (Some name) = shelf name
 
 -- what a command is told that asks for an image or for none; nothing where the store fails
-abbrev pub told_answer : Option Shelf → Option (List ℕ) → Option Answer
-told_answer None None = Some (Err fetch_fault.Missing)
+abbrev pub told_answer : Option Shelf → Option (List ℕ) → Option ImageAnswer
+told_answer None None = Some (Err no_image.Missing)
 told_answer None (Some name) = None
 told_answer (Some shelf) asked = Some (answer_for shelf asked)
 
--- a store of these images has that; a store that doesn't tell its images has answers
+-- a store of these images has that; of one that doesn't tell its images nothing is known
 abbrev pub IsShelf : Option (List (List ℕ × List ℕ)) → Shelf → Type 0
-IsShelf None shelf = (name : List ℕ) → IsAnswer (shelf name)
+IsShelf None shelf = Unit {0}
 IsShelf (Some images) shelf = shelf ≡ fetch_answer images
 
 -- the store tells that, or it fails

@@ -1,22 +1,20 @@
-ghost use Rattle.std.specs.Prelude.{◌≡◌, ◌≢◌, ◌<◌, ◌+◌, ◌++◌, ℕ, IfOk, OnOk, Ok, Err, Some};
+ghost use Rattle.std.specs.Prelude.{◌≡◌, ◌<◌, ◌+◌, ◌++◌, ◌∷◌, [], ℕ, IfOk, OnOk, Ok, Err, Some};
 ghost use Rattle.rp_base.specs.declared.limits.TheConstants.{STEPS_MOST};
 ghost use Rattle.crash_recover.specs.declared.core_answers.Crash.TheVariants as crash;
 ghost use Rattle.crash_recover.specs.declared.core_answers.Leave.TheVariants as leave;
-ghost use Rattle.crash_recover.specs.declared.core_faults.CoreFault.TheVariants as core_fault;
 ghost use Rattle.journal.specs.Lines.{line};
 ghost use Rattle.journal.specs.declared.events.Event.TheVariants as event;
 ghost use Rattle.command_run.specs.Outcomes.{HasCoreEffect};
 ghost use Rattle.command_run.specs.CoreEffects.{core_tells_all};
-ghost use Rattle.command_run.specs.CoreLives.{core_fault_events, crash_effect, detach_effect, fault_at, leave_effect, life_fault_event, may_step, report_effect, shutdown_effect, start_events, start_name};
+ghost use Rattle.command_run.specs.CoreLives.{crash_effect, detach_effect, fault_at, leave_effect, life_fault_event, report_effect, shutdown_effect, start_events, start_fault_events, start_name};
 
 use crate::NamedCore;
-use crash_recover::{CALLER_OUT, CoreFault, Crash, Leave, RINGS_CHANGED, Start};
+use crash_recover::{CALLER_OUT, Crash, Leave, LeaveFault, RINGS_CHANGED, Start, StartFault};
 use journal::Event;
-use lane_model::ReopenFault;
-use link_commands::{RunLog, StartAct, Stop, event};
+use link_commands::{RunLog, StartAct, Stop, event, reopen_fault_event};
 use proc_state::LifeFault;
-use rp_base::{CrashKind, Era, Inc, Name, NoMemory, STEPS_MOST};
-use rp_io::FetchFault;
+use rp_base::{CrashKind, Inc, Name, NoMemory, STEPS_MOST};
+use rp_io::NoImage;
 
 impl NamedCore {
     /// The name of the image with which the core is started: for a recovery that with which it was
@@ -37,58 +35,19 @@ impl NamedCore {
     pub(crate) fn tell_start(
         &mut self,
         image: Name,
-        started: Result<Start, CoreFault>,
+        started: Result<Start, StartFault>,
         log: &mut RunLog,
     ) -> Result<Option<Stop>, NoMemory>
         ensures same { self.new ≡ self.old }
-        ensures known { OnOk result (started ≢ Err core_fault.NoMemory) }
         ensures effect { IfOk result (λ ending. HasCoreEffect (core_tells_all self.old.core log.old.steps (start_events self.old.name image started)) self.new.core log.old log.new ending) }
     {
-        match started {
-            Ok(start) => {
-                let name = self.name;
-                let event = match start {
-                    Start::Running(inc) => event!(Running, name, [inc]),
-                    Start::Attached(inc) => event!(Attached, name, [inc]),
-                    Start::Users(users) => event!(Users, name, [users]),
-                    Start::Detached => Event::Detached { name },
-                };
-                self.tell(&event, log)
-            }
-            Err(fault) => self.refuse(image, &fault, log),
-        }
-    }
-
-    /// Tells why the image of a name is not booted, or why something else is refused.
-    fn refuse(
-        &mut self,
-        image: Name,
-        fault: &CoreFault,
-        log: &mut RunLog,
-    ) -> Result<Option<Stop>, NoMemory>
-        ensures same { self.new ≡ self.old }
-        ensures known { OnOk result (fault.now ≢ core_fault.NoMemory) }
-        ensures effect { IfOk result (λ ending. HasCoreEffect (core_tells_all self.old.core log.old.steps (core_fault_events self.old.name image fault.now)) self.new.core log.old log.new ending) }
-    {
         let name = self.name;
-        let event = match *fault {
-            CoreFault::Fetch(FetchFault::Missing) => Event::Missing { name, image },
-            CoreFault::Fetch(FetchFault::TooLarge(_)) => Event::TooLarge { name, image },
-            CoreFault::Load(fault) => fault_at(name, fault.number().unwrap_or(0), fault.index()),
-            CoreFault::Life(fault) => life_fault_event(name, fault),
-            CoreFault::RingsChanged => fault_at(name, RINGS_CHANGED, None),
-            CoreFault::CallerOut(caller) => fault_at(name, CALLER_OUT, Some(u16::from(caller))),
-            CoreFault::Reopen(ReopenFault::StillOpen(Era { inc, .. })) => {
-                event!(StillOpen, name, [inc])
-            }
-            CoreFault::Reopen(ReopenFault::StillTurn(caller)) => event!(StillTurn, name, [caller]),
-            CoreFault::Reopen(ReopenFault::StillHeld(caller, number)) => {
-                event!(StillHeld, name, [caller], number)
-            }
-            CoreFault::Reopen(ReopenFault::IncarnationsSpent) => Event::IncarnationsSpent { name },
-            CoreFault::Reopen(ReopenFault::NoMemory)
-            | CoreFault::Fetch(FetchFault::Failed | FetchFault::NoMemory)
-            | CoreFault::NoMemory => return Err(NoMemory),
+        let event = match started {
+            Ok(Start::Running(inc)) => event!(Running, name, [inc]),
+            Ok(Start::Attached(inc)) => event!(Attached, name, [inc]),
+            Ok(Start::Users(users)) => event!(Users, name, [users]),
+            Ok(Start::Detached) => Event::Detached { name },
+            Err(fault) => start_fault_event(name, image, fault)?,
         };
         self.tell(&event, log)
     }
@@ -117,7 +76,7 @@ impl NamedCore {
     /// refused. The close of a link is a step.
     fn tell_leave(
         &mut self,
-        left: Result<Leave, CoreFault>,
+        left: Result<Leave, LeaveFault>,
         last: &Event,
         log: &mut RunLog,
     ) -> Result<Option<Stop>, NoMemory>
@@ -134,7 +93,11 @@ impl NamedCore {
                 self.tell(last, log)
             }
             Ok(Leave::Limit) => Ok(Some(Stop::StepLimit)),
-            Err(fault) => self.refuse(name, &fault, log),
+            Err(LeaveFault::Life(fault)) => self.tell(&life_fault_event(name, fault), log),
+            Err(LeaveFault::CallerOut(caller)) => {
+                let fault = fault_at(name, CALLER_OUT, Some(u16::from(caller)));
+                self.tell(&fault, log)
+            }
         }
     }
 
@@ -184,6 +147,20 @@ impl NamedCore {
         let name = self.name;
         log.count();
         log.tell(&event!(Closed, name, [inc]))
+    }
+}
+
+/// Why a core is not started with the image of a name.
+fn start_fault_event(name: Name, image: Name, fault: StartFault) -> Result<Event, NoMemory>
+    ensures { IfOk result (λ event. event ∷ [] ≡ start_fault_events name image fault) }
+{
+    match fault {
+        StartFault::NoImage(NoImage::Missing) => Ok(Event::Missing { name, image }),
+        StartFault::NoImage(NoImage::TooLarge(_)) => Ok(Event::TooLarge { name, image }),
+        StartFault::Load(fault) => Ok(fault_at(name, fault.number().unwrap_or(0), fault.index())),
+        StartFault::Life(fault) => Ok(life_fault_event(name, fault)),
+        StartFault::RingsChanged => Ok(fault_at(name, RINGS_CHANGED, None)),
+        StartFault::Reopen(fault) => reopen_fault_event(name, fault),
     }
 }
 

@@ -1,5 +1,5 @@
 ghost use Rattle.std.specs.Prelude.{◌≡◌, ◌≢◌, Err, IfOk, OnOk};
-ghost use Rattle.rp_io.specs.declared.faults.FetchFault.TheVariants as fetch_fault;
+ghost use Rattle.rp_io.specs.declared.faults.NoImage.TheVariants as no_image;
 ghost use Rattle.crash_recover.specs.declared.core_faults.AddFault.TheVariants as add_fault;
 ghost use Rattle.link_commands.specs.Acts.{IsFitCore, IsFitNamed, bare_named_act};
 ghost use Rattle.command_run.specs.Outcomes.{HasCoreEffect};
@@ -44,7 +44,7 @@ impl NamedCore {
     ) -> Result<Option<Stop>, NoMemory>
         requires fit { IsFitNamed (bare_named_act (λ bytes. bytes.now) act.now) }
         ensures name { self.new.name ≡ self.old.name }
-        ensures effect { IfOk result (λ ending. HasCoreEffect (core_effect images.now (Err fetch_fault.Missing) is_quiet self.old log.old.steps (bare_named_act (λ bytes. bytes.now) act.now)) self.new.core log.old log.new ending) }
+        ensures effect { IfOk result (λ ending. HasCoreEffect (core_effect images.now (Err no_image.Missing) is_quiet self.old log.old.steps (bare_named_act (λ bytes. bytes.now) act.now)) self.new.core log.old log.new ending) }
     {
         match act {
             NamedAct::Make(_) => self.tell(&Event::Exists { name: self.name }, log),
@@ -66,7 +66,7 @@ impl NamedCore {
     ) -> Result<Option<Stop>, NoMemory>
         requires fit { IsFitCore act }
         ensures name { self.new.name ≡ self.old.name }
-        ensures effect { IfOk result (λ ending. HasCoreEffect (core_act_effect images.now (Err fetch_fault.Missing) is_quiet self.old log.old.steps act) self.new.core log.old log.new ending) }
+        ensures effect { IfOk result (λ ending. HasCoreEffect (core_act_effect images.now (Err no_image.Missing) is_quiet self.old log.old.steps act) self.new.core log.old log.new ending) }
     {
         match act {
             CoreAct::Region(region) => self.add_region(region, log),

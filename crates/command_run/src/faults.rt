@@ -2,20 +2,10 @@
 ghost use Rattle.std.specs.Prelude.{◌≡◌};
 ghost use Rattle.command_run.specs.declared.faults.CommandFault.TheVariants as command_fault;
 ghost use Rattle.command_run.specs.declared.faults.OutputFault.TheVariants as output_fault;
-ghost use Rattle.command_run.specs.declared.faults.StoreFault.TheVariants as store_fault;
 ghost use Rattle.command_run.specs.Faults.{output_command_fault, store_command_fault};
 
 use rp_base::NoMemory;
-use rp_io::Failed;
-
-/// Why an image was not fetched.
-#[derive(Clone, Copy)]
-pub enum StoreFault {
-    /// The store of images failed. Its count of faults rose.
-    Failed,
-    /// Memory ran out.
-    NoMemory,
-}
+use rp_io::{Failed, StoreFault};
 
 /// Why lines were not written to their end.
 #[derive(Clone, Copy)]
@@ -35,14 +25,6 @@ pub enum CommandFault {
     Write,
     /// Memory ran out.
     NoMemory,
-}
-
-impl From<NoMemory> for StoreFault {
-    ghost from_gives = { λ _ e. e ≡ store_fault.NoMemory };
-
-    fn from(_error: NoMemory) -> StoreFault {
-        StoreFault::NoMemory
-    }
 }
 
 impl From<NoMemory> for OutputFault {

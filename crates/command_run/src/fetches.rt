@@ -1,56 +1,44 @@
-ghost use Rattle.std.specs.Prelude.{◌≡◌, None, Some, Err, IsTrue, is_some, IfNone, IfOk, IfErr, IfSome, OnOk, IsErrOf};
+ghost use Rattle.std.specs.Prelude.{◌≡◌, None, Some, Err, IsTrue, is_some, IfOk, IfErr, OnOk, IsErrOf};
 ghost use Rattle.std.specs.Option.{option_copied};
 ghost use Rattle.std.specs.Result.{result_map_both};
+ghost use Rattle.rp_io.specs.Images.{IsStoreFault};
 ghost use Rattle.script_lang.specs.Runnable.{IsRunnable};
-ghost use Rattle.rp_io.specs.declared.faults.FetchFault.TheVariants as fetch_fault;
-ghost use Rattle.command_run.specs.declared.faults.StoreFault.TheVariants as store_fault;
+ghost use Rattle.rp_io.specs.declared.faults.NoImage.TheVariants as no_image;
+ghost use Rattle.rp_io.specs.declared.faults.StoreFault.TheVariants as store_fault;
 ghost use Rattle.command_run.specs.CoreLives.{found_image, image_bytes};
 ghost use Rattle.command_run.specs.Runs.{asked_name, core_act, outside_image};
-ghost use Rattle.command_run.specs.Fetches.{IsFetchFault, IsToldUnder, KeepsDrive, RunsTold, answer_of};
+ghost use Rattle.command_run.specs.Fetches.{KeepsDrive, RunsTold};
 ghost use Rattle.command_run.specs.Starts.{IsImageOf, image_answer};
 ghost use Rattle.link_commands.specs.Acts.{line_of};
 
-use crate::faults::{CommandFault, StoreFault};
+use crate::faults::CommandFault;
 use crate::{Objects, ScriptImage};
 use link_commands::{CoreAct, Line, NamedAct, RunLog, Stop, line_of};
 use rp_base::{IMAGE_MOST, Name};
-use rp_io::{FetchFault, FirmwareStore, Sink};
+use rp_io::{FirmwareStore, NoImage, Sink, StoreFault, bytes_of, look_up_bytes};
 use script_lang::Command;
 use std::alloc::Global;
-
-/// What the store told of an image.
-#[derive(Drop)]
-pub enum Fetched {
-    /// There is no image of this name.
-    Missing,
-    /// The image is longer than [`IMAGE_MOST`](rp_base::IMAGE_MOST): its length in bytes.
-    TooLarge(u64),
-    /// The bytes of the image.
-    Found(Vec<u8>),
-}
 
 /// An image that was looked for.
 #[derive(Drop)]
 pub enum FoundImage<'a> {
     /// The script made it: its bytes.
     Made(&'a [u8]),
-    /// The script didn't make it, and the store told this of it.
-    Told(Fetched),
+    /// The script didn't make it, and the store has this under its name.
+    Told(Result<Vec<u8>, NoImage>),
 }
 
 impl FoundImage<'_> {
     /// The bytes of the image, unless it is missing or too large.
-    pub(crate) fn image(&self) -> Result<&[u8], FetchFault>
+    pub(crate) fn image(&self) -> Result<&[u8], NoImage>
         ensures { result_map_both (λ bytes. bytes.now) (λ why. why) result ≡ image_answer self.now }
     {
         match self {
             FoundImage::Made(bytes) if bytes.len() > IMAGE_MOST => {
-                Err(FetchFault::TooLarge(bytes.len() as u64))
+                Err(NoImage::TooLarge(bytes.len() as u64))
             }
             FoundImage::Made(bytes) => Ok(bytes),
-            FoundImage::Told(Fetched::Found(bytes)) => Ok(bytes),
-            FoundImage::Told(Fetched::TooLarge(len)) => Err(FetchFault::TooLarge(*len)),
-            FoundImage::Told(Fetched::Missing) => Err(FetchFault::Missing),
+            FoundImage::Told(found) => bytes_of(found),
         }
     }
 }
@@ -107,7 +95,7 @@ pub(crate) fn find_image<'a, F: FirmwareStore>(
 ) -> Result<FoundImage<'a>, StoreFault>
     ensures told { IfOk result (IsImageOf (F.images store.old) images.now name.now) }
     ensures same { OnOk result (F.faults store.new ≡ F.faults store.old) }
-    ensures fault { IfErr result (λ why. IsFetchFault why (F.faults store.old) (F.faults store.new)) }
+    ensures fault { IfErr result (λ why. IsStoreFault why (F.faults store.old) (F.faults store.new)) }
     ensures asked { IsErrOf result store_fault.Failed → IsTrue (is_some (outside_image images.now name.now)) }
     ensures kept { F.images store.new ≡ F.images store.old }
     ensures unasked { outside_image images.now name.now ≡ None → store.new ≡ store.old }
@@ -115,19 +103,16 @@ pub(crate) fn find_image<'a, F: FirmwareStore>(
     if let Some(bytes) = image_bytes(images, name) {
         return Ok(FoundImage::Made(bytes));
     }
-    match str::from_utf8(name) {
-        Ok(name) => Ok(FoundImage::Told(fetch(alloc, name, store)?)),
-        Err(_) => Ok(FoundImage::Told(Fetched::Missing)),
-    }
+    Ok(FoundImage::Told(look_up_bytes(alloc, store, name)?))
 }
 
 /// The image of a name, of which the script made one or none is there.
 pub(crate) fn script_image<'a>(images: &'a [ScriptImage], name: &[u8]) -> FoundImage<'a>
-    ensures { image_answer result ≡ found_image images.now (Err fetch_fault.Missing) name.now }
+    ensures { image_answer result ≡ found_image images.now (Err no_image.Missing) name.now }
 {
     match image_bytes(images, name) {
         Some(bytes) => FoundImage::Made(bytes),
-        None => FoundImage::Told(Fetched::Missing),
+        None => FoundImage::Told(Err(NoImage::Missing)),
     }
 }
 
@@ -137,20 +122,4 @@ fn image_bytes<'a>(images: &'a [ScriptImage], name: &[u8]) -> Option<&'a [u8]>
 {
     let image = images.iter().find(|image| image.name.bytes() == name)?;
     Some(image.bytes.as_slice())
-}
-
-/// Fetches the image of a name.
-fn fetch<F: FirmwareStore>(alloc: Global, name: &str, store: &mut F) -> Result<Fetched, StoreFault>
-    ensures told { IfOk result (λ fetched. IsToldUnder (F.images store.old) name.now (answer_of fetched)) }
-    ensures same { OnOk result (F.faults store.new ≡ F.faults store.old) }
-    ensures fault { IfErr result (λ why. IsFetchFault why (F.faults store.old) (F.faults store.new)) }
-    ensures kept { F.images store.new ≡ F.images store.old }
-{
-    match store.fetch(alloc, name) {
-        Ok(image) => Ok(Fetched::Found(image)),
-        Err(FetchFault::Missing) => Ok(Fetched::Missing),
-        Err(FetchFault::TooLarge(bytes)) => Ok(Fetched::TooLarge(bytes)),
-        Err(FetchFault::Failed) => Err(StoreFault::Failed),
-        Err(FetchFault::NoMemory) => Err(StoreFault::NoMemory),
-    }
 }

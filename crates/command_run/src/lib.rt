@@ -13,6 +13,6 @@ mod objects;
 mod starts;
 
 pub use cores::NamedCore;
-pub use faults::{CommandFault, OutputFault, StoreFault};
+pub use faults::{CommandFault, OutputFault};
 pub use fetches::run_command;
 pub use objects::{Objects, ScriptImage};

@@ -4,7 +4,7 @@ ghost use Rattle.std.specs.Result.{result_map_both};
 ghost use Rattle.lane_model.specs.Conditions.{IsConfig};
 ghost use Rattle.script_lang.specs.Runnable.{IsBook, IsRunnable};
 ghost use Rattle.link_commands.specs.Acts.{IsFitNamed, bare_named_act, line_of};
-ghost use Rattle.rp_io.specs.declared.faults.FetchFault.TheVariants as fetch_fault;
+ghost use Rattle.rp_io.specs.declared.faults.NoImage.TheVariants as no_image;
 ghost use Rattle.journal.specs.Lines.{transcript};
 ghost use Rattle.script_lang.specs.declared.commands.Command.{Command};
 ghost use Rattle.link_commands.specs.declared.acts.CoreAct.TheVariants as core;
@@ -16,7 +16,7 @@ ghost use Rattle.command_run.specs.Faults.{store_command_fault};
 ghost use Rattle.command_run.specs.Fetches.{EndsCut, IfSinkFailed, KeepsDriven, RunsTold};
 
 use crate::cores::{NamedCore, is_on};
-use crate::faults::{OutputFault, StoreFault};
+use crate::faults::OutputFault;
 use channel_bus::Side;
 use crash_recover::{Bench, Core};
 use journal::Event;
@@ -24,7 +24,7 @@ use lane_model::LinkConfig;
 use link_commands::{CoreAct, Line, Making, NamedAct, NamedBench, RunLog, StartAct, Stop, line_of};
 use memory_pool::Regions;
 use rp_base::{Name, NoMemory, OBJECTS_MOST, Switch};
-use rp_io::{FirmwareStore, Sink};
+use rp_io::{FirmwareStore, Sink, StoreFault};
 use script_lang::{Command, Recipe, RegionSet};
 use std::alloc::Global;
 use std::marker::Model;
@@ -125,7 +125,7 @@ impl Objects {
     #[tactic(auto, unfolding(crate::specs::Runs::effect_of))]
     pub fn run(&mut self, command: &Command, log: &mut RunLog) -> Result<Option<Stop>, NoMemory>
         requires { IsRunnable command.now }
-        ensures { IfOk result (λ ending. HasRunEffect (effect_of (Err fetch_fault.Missing) (record { objects = self.old; steps = log.old.steps }) command.now) self.new log.old log.new ending) }
+        ensures { IfOk result (λ ending. HasRunEffect (effect_of (Err no_image.Missing) (record { objects = self.old; steps = log.old.steps }) command.now) self.new log.old log.new ending) }
     {
         match line_of(command) {
             Line::Image { name, recipe } => self.make_image(name, recipe, log),
@@ -162,7 +162,7 @@ impl Objects {
         log: &mut RunLog,
     ) -> Result<Option<Stop>, NoMemory>
         requires fit { IsFitNamed (bare_named_act (λ bytes. bytes.now) act.now) }
-        ensures { IfOk result (λ ending. HasRunEffect (name_effect (Err fetch_fault.Missing) (record { objects = self.old; steps = log.old.steps }) name (bare_named_act (λ bytes. bytes.now) act.now)) self.new log.old log.new ending) }
+        ensures { IfOk result (λ ending. HasRunEffect (name_effect (Err no_image.Missing) (record { objects = self.old; steps = log.old.steps }) name (bare_named_act (λ bytes. bytes.now) act.now)) self.new log.old log.new ending) }
     {
         match place_of(self.links.as_slice(), name.bytes()) {
             Some(place) => self.links[place].run(act, log),
@@ -185,12 +185,12 @@ impl Objects {
         log: &mut RunLog,
         out: &mut K,
     ) -> Result<Option<Stop>, OutputFault>
-        ensures effect { IfOk result (λ ending. HandsRunEffect (name_effect (Err fetch_fault.Missing) (record { objects = self.old; steps = log.old.steps }) name (under.Core (core.Drive count)))
+        ensures effect { IfOk result (λ ending. HandsRunEffect (name_effect (Err no_image.Missing) (record { objects = self.old; steps = log.old.steps }) name (under.Core (core.Drive count)))
             self.new log.old log.new (K.written out.old) (K.written out.new) ending) }
         ensures same { OnOk result (K.faults out.new ≡ K.faults out.old) }
-        ensures cut { IfErr result (λ why. EndsCut why (log.old.lines ++ transcript (name_effect (Err fetch_fault.Missing) (record { objects = self.old; steps = log.old.steps }) name (under.Core (core.Drive count))).events)
+        ensures cut { IfErr result (λ why. EndsCut why (log.old.lines ++ transcript (name_effect (Err no_image.Missing) (record { objects = self.old; steps = log.old.steps }) name (under.Core (core.Drive count))).events)
             (K.written out.old) (K.written out.new) (K.faults out.old) (K.faults out.new)) }
-        ensures paused { IfErr result (λ why. IfSinkFailed why (CutsRun (λ done. name_effect (Err fetch_fault.Missing) (record { objects = self.old; steps = log.old.steps }) name (under.Core (core.Drive done)))
+        ensures paused { IfErr result (λ why. IfSinkFailed why (CutsRun (λ done. name_effect (Err no_image.Missing) (record { objects = self.old; steps = log.old.steps }) name (under.Core (core.Drive done)))
             count self.new log.old.lines (K.written out.old) (K.written out.new))) }
         ensures less { IfOk result (λ _. KeepsDriven (record { objects = self.old; steps = log.old.steps }) name count log.old log.new.lines) }
     {

@@ -1,26 +1,25 @@
-ghost use Rattle.std.specs.Prelude.{◌≡◌, ◌≢◌, None, Some, Err, IfOk};
+ghost use Rattle.std.specs.Prelude.{◌≡◌, None, Some, Err, IfOk};
 ghost use Rattle.std.specs.Result.{result_map_both};
-ghost use Rattle.rp_io.specs.declared.faults.FetchFault.TheVariants as fetch_fault;
-ghost use Rattle.crash_recover.specs.declared.core_faults.CoreFault.TheVariants as core_fault;
+ghost use Rattle.rp_io.specs.declared.faults.NoImage.TheVariants as no_image;
 ghost use Rattle.command_run.specs.CoreLives.{start_with, started_effect};
 ghost use Rattle.command_run.specs.Outcomes.{HasCoreEffect};
 ghost use Rattle.command_run.specs.Runs.{start_image};
 ghost use Rattle.command_run.specs.Starts.{Begins, NeedsImage, StartsOver, start_of};
 
 use crate::fetches::{find_image, script_image};
-use crate::{NamedCore, ScriptImage, StoreFault};
-use crash_recover::{Boot, Core, CoreFault, Start};
+use crate::{NamedCore, ScriptImage};
+use crash_recover::{Boot, Core, Start, StartFault};
 use link_commands::{RunLog, StartAct, Stop};
 use proc_state::Life;
 use rp_base::{Name, NoMemory};
-use rp_io::{FetchFault, FirmwareStore};
+use rp_io::{FirmwareStore, NoImage, StoreFault};
 use std::alloc::Global;
 
 /// How far a start of a core comes without an image.
 #[derive(Drop)]
 pub enum Beginning {
     /// It did this, or was refused.
-    Done(Result<Start, CoreFault>),
+    Done(Result<Start, StartFault>),
     /// It needs an image. Nothing has changed.
     NeedsImage(Rest),
 }
@@ -47,14 +46,14 @@ impl NamedCore {
         log: &mut RunLog,
     ) -> Result<Option<Stop>, NoMemory>
         ensures name { self.new.name ≡ self.old.name }
-        ensures effect { IfOk result (λ ending. HasCoreEffect (started_effect start images.now (Err fetch_fault.Missing) self.old log.old.steps) self.new.core log.old log.new ending) }
+        ensures effect { IfOk result (λ ending. HasCoreEffect (started_effect start images.now (Err no_image.Missing) self.old log.old.steps) self.new.core log.old log.new ending) }
     {
         let image = self.start_name(start);
-        match begin(&mut self.core, log.alloc(), start) {
+        match begin(&mut self.core, log.alloc(), start)? {
             Beginning::Done(started) => Ok(self.tell_start(image, started, log)?),
             Beginning::NeedsImage(rest) => {
                 let found = script_image(images, image.bytes());
-                let started = go_on(&mut self.core, log.alloc(), rest, found.image());
+                let started = go_on(&mut self.core, log.alloc(), rest, found.image())?;
                 Ok(self.tell_start(image, started, log)?)
             }
         }
@@ -74,11 +73,11 @@ impl NamedCore {
         ensures unasked { start_image start images.now (Some self.old) ≡ None → store.new ≡ store.old }
     {
         let image = self.start_name(start);
-        match begin(&mut self.core, log.alloc(), start) {
+        match begin(&mut self.core, log.alloc(), start)? {
             Beginning::Done(started) => Ok(self.tell_start(image, started, log)?),
             Beginning::NeedsImage(rest) => {
                 let found = find_image(log.alloc(), images, image.bytes(), store)?;
-                let started = go_on(&mut self.core, log.alloc(), rest, found.image());
+                let started = go_on(&mut self.core, log.alloc(), rest, found.image())?;
                 Ok(self.tell_start(image, started, log)?)
             }
         }
@@ -86,22 +85,21 @@ impl NamedCore {
 }
 
 /// A start of a core as far as it comes without an image.
-fn begin(core: &mut Core, alloc: Global, start: StartAct) -> Beginning
-    ensures { Begins start core.old core.new result }
+fn begin(core: &mut Core, alloc: Global, start: StartAct) -> Result<Beginning, NoMemory>
+    ensures { IfOk result (Begins start core.old core.new) }
 {
     match start {
-        StartAct::Boot { image } => match core.begin_boot(alloc) {
-            Ok(Boot::Done(start)) => Beginning::Done(Ok(start)),
-            Ok(Boot::NeedsImage(life)) => Beginning::NeedsImage(Rest::Boot(life, image)),
-            Err(fault) => Beginning::Done(Err(fault)),
+        StartAct::Boot { image } => match core.begin_boot(alloc)? {
+            Boot::Done(started) => Ok(Beginning::Done(started)),
+            Boot::NeedsImage(life) => Ok(Beginning::NeedsImage(Rest::Boot(life, image))),
         },
         StartAct::Handover { image } => match core.handover_life() {
-            Ok(life) => Beginning::NeedsImage(Rest::Handover(life, image)),
-            Err(fault) => Beginning::Done(Err(CoreFault::Life(fault))),
+            Ok(life) => Ok(Beginning::NeedsImage(Rest::Handover(life, image))),
+            Err(fault) => Ok(Beginning::Done(Err(StartFault::Life(fault)))),
         },
         StartAct::Recover => match core.recovery_fault() {
-            None => Beginning::NeedsImage(Rest::Recovery),
-            Some(fault) => Beginning::Done(Err(CoreFault::Life(fault))),
+            None => Ok(Beginning::NeedsImage(Rest::Recovery)),
+            Some(fault) => Ok(Beginning::Done(Err(StartFault::Life(fault)))),
         },
     }
 }
@@ -111,11 +109,10 @@ fn go_on(
     core: &mut Core,
     alloc: Global,
     rest: Rest,
-    found: Result<&[u8], FetchFault>,
-) -> Result<Start, CoreFault>
+    found: Result<&[u8], NoImage>,
+) -> Result<Result<Start, StartFault>, NoMemory>
     requires { NeedsImage core.old rest }
-    ensures { result ≢ Err core_fault.NoMemory
-        → start_with (start_of rest) core.old (result_map_both (λ image. image.now) (λ why. why) found.entry) ≡ record { core = core.new; answer = result } }
+    ensures { IfOk result (λ started. start_with (start_of rest) core.old (result_map_both (λ image. image.now) (λ why. why) found.entry) ≡ record { core = core.new; answer = started }) }
 {
     match rest {
         Rest::Boot(life, image) => core.boot_image(alloc, life, image, found),

@@ -2,6 +2,7 @@
 use Rattle.std.proofs.Common.{◌≡◌, ◌+◌, ◌==◌, ℕ, true, List, Option, Some, None, IfSome, Result, Ok, Err, refl, sym, ap, subst, ◌∙◌}
 use Rattle.std.specs.Option.{option_map}
 use Rattle.std.proofs.lemmas.Bool.{cond_both, true≢false}
+use Rattle.rp_io.specs.Images.{ImageAnswer}
 use Rattle.rp_base.specs.declared.kinds.End.{End}
 use Rattle.rp_base.specs.declared.kinds.End.TheVariants as side
 use Rattle.rp_base.specs.declared.kinds.LifeState.{LifeState}
@@ -19,11 +20,11 @@ use Rattle.link_bench.specs.BenchCrashes.{after_reopen}
 use Rattle.link_bench.specs.BenchEnds.{bench_to_reopen, with_new_host_unless}
 use Rattle.crash_recover.specs.declared.core_answers.Start.{Start}
 use Rattle.crash_recover.specs.declared.core_answers.Start.TheVariants as start
-use Rattle.crash_recover.specs.declared.core_faults.CoreFault.{CoreFault}
-use Rattle.crash_recover.specs.declared.core_faults.CoreFault.TheVariants as fault
+use Rattle.crash_recover.specs.declared.core_faults.StartFault.{StartFault}
+use Rattle.crash_recover.specs.declared.core_faults.StartFault.TheVariants as start_fault
 use Rattle.core_actors.specs.Actors.{driver_names}
 use Rattle.crash_recover.specs.Cores.{CoreOutcome, CoreState, IsKeptCore, loaded_rings, refuse_or}
-use Rattle.crash_recover.specs.CoreBoots.{Found, boot_as, boot_of, core_bench, first_boot, image_fault, load_in, started_core, with_load}
+use Rattle.crash_recover.specs.CoreBoots.{boot_as, boot_of, core_bench, first_boot, image_fault, load_in, started_core, with_load}
 use Rattle.crash_recover.specs.CoreRecoveries.{core_to_reopen, recovery_fault, recovery_of, reload_fault, reopen_fault}
 use Rattle.crash_recover.specs.KeptCores.{IsKeptBench}
 use Rattle.crash_recover.proofs.Restarts.{recovers}
@@ -101,15 +102,15 @@ recovery_next (Some state) life is =
 -- ---- cores
 
 -- where a life begins with this outcome, this holds of its core
-abbrev pub Begun : (CoreState → Type 0) → CoreOutcome Start CoreFault → Type 0
+abbrev pub Begun : (CoreState → Type 0) → CoreOutcome Start StartFault → Type 0
 Begun Q outcome = (did : Start) → begins_life did ≡ true → outcome.answer ≡ Ok did → Q outcome.core
 
 users_begin_none : (users : ℕ) (did : Start) → begins_life did ≡ true → start.Users users ≡ did → ⊥
 users_begin_none users did begins same = true≢false (sym (ap begins_life same ∙ begins))
 
-first_begins : (life : CoreLife) (core : CoreState) (name : List ℕ) (found : Found) → Begun (BeginsLife life.incarnation) (first_boot life core name found)
+first_begins : (life : CoreLife) (core : CoreState) (name : List ℕ) (found : ImageAnswer) → Begun (BeginsLife life.incarnation) (first_boot life core name found)
 first_begins life core name found =
-    let done : CoreOutcome Start CoreFault = record { core = started_core life (with_load core name (load_in core found)); answer = Ok (start.Running life.incarnation) } in
+    let done : CoreOutcome Start StartFault = record { core = started_core life (with_load core name (load_in core found)); answer = Ok (start.Running life.incarnation) } in
     cond_both (is_offline core.life.state) (refuse_or core (image_fault core found) done) (record { core = started_core life core; answer = Ok (start.Attached life.incarnation) }) (Begun (BeginsLife life.incarnation))
     (λ _. elim (image_fault core found) as (λ refused. Begun (BeginsLife life.incarnation) (refuse_or core refused done)) [
       | None ↦ λ did begins is. record { life = refl; link = linked_empty (driver_names core.actors) core.book life.incarnation (load_in core found).rings }
@@ -117,38 +118,38 @@ first_begins life core name found =
     ])
     (λ _ did begins is. record { life = refl; link = linked_empty (driver_names core.actors) core.book life.incarnation (loaded_rings core.loaded) })
 
-boot_as_begins : (inc : ℕ) (life : CoreLife) (answer : Result Power LifeFault) (core : CoreState) (name : List ℕ) (found : Found) → (answer ≡ Ok power.First → life.incarnation ≡ inc)
+boot_as_begins : (inc : ℕ) (life : CoreLife) (answer : Result Power LifeFault) (core : CoreState) (name : List ℕ) (found : ImageAnswer) → (answer ≡ Ok power.First → life.incarnation ≡ inc)
     → Begun (BeginsLife inc) (boot_as life answer core name found)
 boot_as_begins inc life (Err why) core name found next did begins is = absurd (cc)
 boot_as_begins inc life (Ok (power.Counted users)) core name found next did begins is = let same : start.Users users ≡ did = cc in absurd (users_begin_none users did begins same)
 boot_as_begins inc life (Ok power.First) core name found next did begins is =
     subst (λ (there : ℕ). BeginsLife there (first_boot life core name found).core) (next refl) (first_begins life core name found did begins is)
 
-pub boot_begins : (core : CoreState) (name : List ℕ) (found : Found) → Begun (BeginsLife (core.life.incarnation + 1)) (boot_of core name found)
+pub boot_begins : (core : CoreState) (name : List ℕ) (found : ImageAnswer) → Begun (BeginsLife (core.life.incarnation + 1)) (boot_of core name found)
 unfolding boot_of
 boot_begins core name found =
     boot_as_begins (core.life.incarnation + 1) (life_after_boot core.life).life (life_after_boot core.life).answer core name found (boot_next (line_of core.life.state).boot core.life)
 
 -- where nothing refuses it
-unless_refused : (Q : CoreState → Type 0) (core : CoreState) (refused : Option CoreFault) (done : CoreOutcome Start CoreFault) → (refused ≡ None → Begun Q done) → Begun Q (refuse_or core refused done)
+unless_refused : (Q : CoreState → Type 0) (core : CoreState) (refused : Option StartFault) (done : CoreOutcome Start StartFault) → (refused ≡ None → Begun Q done) → Begun Q (refuse_or core refused done)
 unless_refused Q core None done rest did begins is = rest refl did begins is
 unless_refused Q core (Some why) done rest did begins is = absurd (cc)
 
-pub recovery_reopens : (core : CoreState) (found : Found) → Begun (λ (after : CoreState). ReopensNext core.bench after.bench) (recovery_of core found)
+pub recovery_reopens : (core : CoreState) (found : ImageAnswer) → Begun (λ (after : CoreState). ReopensNext core.bench after.bench) (recovery_of core found)
 unfolding recovery_of
 recovery_reopens core found =
     let Q : CoreState → Type 0 = λ after. ReopensNext core.bench after.bench in
-    unless_refused Q core (option_map fault.Life (recovery_fault core.life)) _ (λ _.
+    unless_refused Q core (option_map start_fault.Life (recovery_fault core.life)) _ (λ _.
     unless_refused Q core (reload_fault core found) _ (λ _.
     unless_refused Q (core_to_reopen core) (reopen_fault core) _ (λ _ did begins is. readied_next core.bench)))
 
-pub recovery_begins : (core : CoreState) (found : Found) → IsKeptCore core → Begun (BeginsLife (core.life.incarnation + 1)) (recovery_of core found)
+pub recovery_begins : (core : CoreState) (found : ImageAnswer) → IsKeptCore core → Begun (BeginsLife (core.life.incarnation + 1)) (recovery_of core found)
 unfolding recovery_of
 recovery_begins core found kept =
     let Q = BeginsLife (core.life.incarnation + 1) in
-    unless_refused Q core (option_map fault.Life (recovery_fault core.life)) _ (λ may.
+    unless_refused Q core (option_map start_fault.Life (recovery_fault core.life)) _ (λ may.
     unless_refused Q core (reload_fault core found) _ (λ _.
     unless_refused Q (core_to_reopen core) (reopen_fault core) _ (λ opens did begins is. record {
-      life = recovery_next (line_of core.life.state).recovery core.life (recovers core (none_mapped fault.Life (recovery_fault core.life) may) opens);
+      life = recovery_next (line_of core.life.state).recovery core.life (recovers core (none_mapped start_fault.Life (recovery_fault core.life) may) opens);
       link = kept_next core.life core.bench kept;
     })))

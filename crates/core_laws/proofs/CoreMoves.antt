@@ -10,7 +10,7 @@ use Rattle.lane_model.specs.Links.{end_of}
 use Rattle.lane_model.specs.Recoveries.{link_reopen_refusal, link_reclaim_refusal, without_caller}
 use Rattle.fw_load.specs.declared.rings.RingPair.{RingPair}
 use Rattle.link_bench.specs.declared.benches.Reach.TheVariants as reach
-use Rattle.crash_recover.specs.declared.core_faults.CoreFault.TheVariants as fault
+use Rattle.crash_recover.specs.declared.core_faults.StartFault.TheVariants as start_fault
 use Rattle.link_bench.specs.declared.benches.Reach.{Reach}
 use Rattle.std.proofs.lemmas.List.Elements.{All-append}
 use Rattle.rp_base.specs.declared.limits.TheConstants.{MESSAGE_MOST}
@@ -98,7 +98,7 @@ clear_at bench (Some why) clear = absurd (true≢false (ap is_some clear))
 bench_reopened : (bench : BenchState) (is_spent : Bool) → link_fault bench is_spent ≡ None → IsReachedBench bench → IsReachedBench (after_reopen (bench_to_reopen bench))
 bench_reopened bench is_spent none reached =
     reopened (bench_to_reopen bench) (readied bench reached)
-    (clear_at bench (link_reclaim_refusal (link_in bench) 0) (none_mapped fault.Reopen (reopen_refusal_of bench) (first_none _ (spent_fault is_spent) none)))
+    (clear_at bench (link_reclaim_refusal (link_in bench) 0) (none_mapped start_fault.Reopen (reopen_refusal_of bench) (first_none _ (spent_fault is_spent) none)))
 
 found_reopened : (found : Option BenchState) (is_spent : Bool) → fault_with found is_spent ≡ None → IfSome found IsReachedBench
     → IfSome (option_map (λ bench. after_reopen (bench_to_reopen bench)) found) IsReachedBench

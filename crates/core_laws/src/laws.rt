@@ -1,6 +1,7 @@
 //! Laws of the links of benches and of cores. Each is the contract of an empty function, and speaks of definitions alone.
 
-ghost use Rattle.std.specs.Prelude.{◌≡◌, ◌≢◌, ◌↔◌, ◌<◌, ◌+◌, ℕ, Bool, false, true, List, None, Some, IfSome, Ok};
+ghost use Rattle.std.specs.Prelude.{◌≡◌, ◌≢◌, ◌↔◌, ◌<◌, ◌+◌, ℕ, Bool, false, true, List, None, Some, Ok};
+ghost use Rattle.rp_io.specs.Images.{ImageAnswer};
 ghost use Rattle.rp_base.specs.declared.limits.TheConstants.{CALLERS_MOST};
 ghost use Rattle.rp_base.specs.declared.kinds.End.{End};
 ghost use Rattle.lane_model.specs.declared.calls.LinkConfig.{LinkConfig};
@@ -18,7 +19,7 @@ ghost use Rattle.link_bench.specs.BenchCrashes.{after_close, after_reclaim, afte
 ghost use Rattle.link_bench.specs.declared.acts.LinkAct.{LinkAct};
 ghost use Rattle.link_bench.specs.Acts.{IsFitAct, link_act};
 ghost use Rattle.link_bench.specs.Watchers.{nobody_sees};
-ghost use Rattle.crash_recover.specs.CoreBoots.{Found, boot_of, core_bench, handover_of};
+ghost use Rattle.crash_recover.specs.CoreBoots.{boot_of, core_bench, handover_of};
 ghost use Rattle.link_bench.specs.BenchEnds.{bench_to_reopen, crashed_bench};
 ghost use Rattle.crash_recover.specs.CoreCrashes.{report_of};
 ghost use Rattle.crash_recover.specs.CoreLeaves.{detach_of, shutdown_of};
@@ -85,14 +86,14 @@ pub fn core_reached()
     ensures link { (names : List (List ℕ)) (book first : ℕ) (rings : RingPair) → IsReachedBench (core_bench names book first rings) }
     ensures crash { (bench : BenchState) → IsReachedBench bench → IsReachedBench (crashed_bench bench) }
     ensures ready { (bench : BenchState) → IsReachedBench bench → IsReachedBench (bench_to_reopen bench) }
-    ensures boot { (core : CoreState) (name : List ℕ) (found : Found) → IsReachedCore core → IsReachedCore (boot_of core name found).core }
-    ensures handover { (core : CoreState) (name : List ℕ) (found : Found) → IsReachedCore core → IsReachedCore (handover_of core name found).core }
+    ensures boot { (core : CoreState) (name : List ℕ) (found : ImageAnswer) → IsReachedCore core → IsReachedCore (boot_of core name found).core }
+    ensures handover { (core : CoreState) (name : List ℕ) (found : ImageAnswer) → IsReachedCore core → IsReachedCore (handover_of core name found).core }
     ensures shutdown { (may_step : Bool) (core : CoreState) → IsReachedCore core → IsReachedCore (shutdown_of may_step core).core }
     ensures detach { (may_step : Bool) (core : CoreState) → IsReachedCore core → IsReachedCore (detach_of may_step core).core }
     ensures report { (may_step : Bool) (core : CoreState) → IsReachedCore core → IsReachedCore (report_of may_step core).core }
     ensures readied { (core : CoreState) → IsReachedCore core → IsReachedCore (core_to_reopen core) }
     ensures reopened { (core : CoreState) → IsReachedCore core → reopen_fault core ≡ None → IsReachedCore (reopened_core core) }
-    ensures recovery { (core : CoreState) (found : Found) → IsReachedCore core → IsReachedCore (recovery_of core found).core }
+    ensures recovery { (core : CoreState) (found : ImageAnswer) → IsReachedCore core → IsReachedCore (recovery_of core found).core }
     ensures drive { (core : CoreState) → MayDrive core → IsReachedCore core → IsReachedCore (drive_step core).core }
     ensures act { (core : CoreState) (steps : ℕ) (act : LinkAct (List ℕ)) → IsFitAct act → IsReachedCore core → IsReachedCore (core_act core steps act).core }
 {}
@@ -125,11 +126,11 @@ pub fn handed_due()
 /// A boot makes an offline core with an incarnation left run exactly where an image was found that loads over the core's regions, and a handover
 /// makes an offline core detached exactly there. A boot of a detached core attaches to it exactly where an incarnation is left.
 pub fn starts_just_where()
-    ensures boot { (core : CoreState) (name : List ℕ) (found : Found) → core.life.state ≡ state.Offline → core.life.incarnation ≢ most
+    ensures boot { (core : CoreState) (name : List ℕ) (found : ImageAnswer) → core.life.state ≡ state.Offline → core.life.incarnation ≢ most
         → ((boot_of core name found).core.life.state ≡ state.Running) ↔ FindsLoadable core found }
-    ensures handover { (core : CoreState) (name : List ℕ) (found : Found) → core.life.state ≡ state.Offline
+    ensures handover { (core : CoreState) (name : List ℕ) (found : ImageAnswer) → core.life.state ≡ state.Offline
         → ((handover_of core name found).core.life.state ≡ state.Detached) ↔ FindsLoadable core found }
-    ensures attach { (core : CoreState) (name : List ℕ) (found : Found) → core.life.state ≡ state.Detached
+    ensures attach { (core : CoreState) (name : List ℕ) (found : ImageAnswer) → core.life.state ≡ state.Detached
         → ((boot_of core name found).core.life.state ≡ state.Attached) ↔ (core.life.incarnation ≢ most) }
 {}
 
@@ -141,11 +142,11 @@ pub fn reopens_next()
 /// Where a life of a core begins, by a boot, an attach or a recovery, the life is in its next incarnation, and so is the link, live and empty on both
 /// lanes: what is handed over in a life was accepted in it. A recovery leaves a link exactly where there was one, in the incarnation behind that one's.
 pub fn lives_begin_empty()
-    ensures boot { (core : CoreState) (name : List ℕ) (found : Found) (did : Start) → begins_life did ≡ true → (boot_of core name found).answer ≡ Ok did
+    ensures boot { (core : CoreState) (name : List ℕ) (found : ImageAnswer) (did : Start) → begins_life did ≡ true → (boot_of core name found).answer ≡ Ok did
         → BeginsLife (core.life.incarnation + 1) (boot_of core name found).core }
-    ensures recovery { (core : CoreState) (found : Found) (did : Start) → IsKeptCore core → begins_life did ≡ true → (recovery_of core found).answer ≡ Ok did
+    ensures recovery { (core : CoreState) (found : ImageAnswer) (did : Start) → IsKeptCore core → begins_life did ≡ true → (recovery_of core found).answer ≡ Ok did
         → BeginsLife (core.life.incarnation + 1) (recovery_of core found).core }
-    ensures reopening { (core : CoreState) (found : Found) (did : Start) → begins_life did ≡ true → (recovery_of core found).answer ≡ Ok did
+    ensures reopening { (core : CoreState) (found : ImageAnswer) (did : Start) → begins_life did ≡ true → (recovery_of core found).answer ≡ Ok did
         → ReopensNext core.bench (recovery_of core found).core.bench }
 {}
 
@@ -153,14 +154,14 @@ pub fn lives_begin_empty()
 /// the incarnation of the core's life, live exactly while the core is up. A link that is reopened is so for the next incarnation of the life.
 pub fn core_kept()
     ensures new { (regions : List Region) (kinds : List Declared) (book : ℕ) → IsKeptCore (new_core regions kinds book) }
-    ensures boot { (core : CoreState) (name : List ℕ) (found : Found) → IsKeptCore core → IsKeptCore (boot_of core name found).core }
-    ensures handover { (core : CoreState) (name : List ℕ) (found : Found) → IsKeptCore core → IsKeptCore (handover_of core name found).core }
+    ensures boot { (core : CoreState) (name : List ℕ) (found : ImageAnswer) → IsKeptCore core → IsKeptCore (boot_of core name found).core }
+    ensures handover { (core : CoreState) (name : List ℕ) (found : ImageAnswer) → IsKeptCore core → IsKeptCore (handover_of core name found).core }
     ensures shutdown { (may_step : Bool) (core : CoreState) → IsKeptCore core → IsKeptCore (shutdown_of may_step core).core }
     ensures detach { (may_step : Bool) (core : CoreState) → IsKeptCore core → IsKeptCore (detach_of may_step core).core }
     ensures report { (may_step : Bool) (core : CoreState) → IsKeptCore core → IsKeptCore (report_of may_step core).core }
     ensures readied { (core : CoreState) → IsKeptCore core → IsKeptCore (core_to_reopen core) }
     ensures reopened { (core : CoreState) → IsKeptCore core → IsKeptCore (with_next_life (reopened_core core)) }
-    ensures recovery { (core : CoreState) (found : Found) → IsKeptCore core → IsKeptCore (recovery_of core found).core }
+    ensures recovery { (core : CoreState) (found : ImageAnswer) → IsKeptCore core → IsKeptCore (recovery_of core found).core }
     ensures drive { (core : CoreState) → IsKeptCore core → IsKeptCore (drive_step core).core }
     ensures act { (core : CoreState) (steps : ℕ) (act : LinkAct (List ℕ)) → IsKeptCore core → IsKeptCore (core_act core steps act).core }
 {}
@@ -207,13 +208,13 @@ pub fn actors_begin()
 /// step of it. So it is of a new core, and so it stays over all that the core goes through, and over acts for other callers.
 pub fn core_ready()
     ensures new { (regions : List Region) (kinds : List Declared) (book : ℕ) → IsReadyCore (new_core regions kinds book) }
-    ensures boot { (core : CoreState) (name : List ℕ) (found : Found) → IsReadyCore core → IsReadyCore (boot_of core name found).core }
-    ensures handover { (core : CoreState) (name : List ℕ) (found : Found) → IsReadyCore core → IsReadyCore (handover_of core name found).core }
+    ensures boot { (core : CoreState) (name : List ℕ) (found : ImageAnswer) → IsReadyCore core → IsReadyCore (boot_of core name found).core }
+    ensures handover { (core : CoreState) (name : List ℕ) (found : ImageAnswer) → IsReadyCore core → IsReadyCore (handover_of core name found).core }
     ensures shutdown { (may_step : Bool) (core : CoreState) → IsReadyCore core → IsReadyCore (shutdown_of may_step core).core }
     ensures detach { (may_step : Bool) (core : CoreState) → IsReadyCore core → IsReadyCore (detach_of may_step core).core }
     ensures report { (may_step : Bool) (core : CoreState) → IsReadyCore core → IsReadyCore (report_of may_step core).core }
     ensures readied { (core : CoreState) → recovery_fault core.life ≡ None → IsReadyCore core → IsReadyCore (core_to_reopen core) }
-    ensures recovery { (core : CoreState) (found : Found) → IsReadyCore core → IsReadyCore (recovery_of core found).core }
+    ensures recovery { (core : CoreState) (found : ImageAnswer) → IsReadyCore core → IsReadyCore (recovery_of core found).core }
     ensures drive { (core : CoreState) → MayDrive core → IsReachedCore core → IsReadyCore (drive_step core).core }
     ensures act { (core : CoreState) (steps : ℕ) (act : LinkAct (List ℕ)) → IsFitAct act → IsReachedCore core → IsReadyCore core
         → IsReadyCore (core_act core steps act).core }

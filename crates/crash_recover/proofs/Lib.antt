@@ -8,7 +8,7 @@ pub mod PlacedCounts
 pub mod PartSums
 pub mod KeptParts
 pub mod CoreParts
-pub mod Unfound
+pub mod RefusedLives
 pub mod Restarts
 pub mod BootLives
 pub mod SameLives

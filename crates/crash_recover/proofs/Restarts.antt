@@ -1,29 +1,17 @@
--- A recovery that nothing refuses starts the core again.
-use Rattle.std.proofs.Common.{◌≡◌, ◌≢◌, ◌==◌, Bool, true, false, cond, Option, Some, None, IfOk, IfErr, OnOk, OnErr, Result, Ok, Err, is_some, refl, sym, ap, ◌∙◌}
-use Rattle.std.specs.Option.{option_or, unwrap_or}
+-- A core that may be recovered is loaded, and where nothing keeps it from being started again its life goes on.
+use Rattle.std.proofs.Common.{◌≡◌, ◌==◌, Bool, true, false, cond, Option, Some, None, Ok, is_some, refl, sym, ap, ◌∙◌}
+use Rattle.std.specs.Option.{option_or}
 use Rattle.std.proofs.lemmas.Bool.{cond_both, true≢false}
 use Rattle.rp_base.specs.declared.kinds.LifeState.{LifeState}
 use Rattle.rp_base.specs.declared.kinds.LifeState.TheVariants.{Offline, Running, Crashed, Attached, Detached}
 use Rattle.proc_state.specs.declared.answers.LifeFault.TheVariants as life_fault
 use Rattle.proc_state.specs.Lives.{CoreLife, Outcome, first_start, is_offline, life_after_recovery, line_of, most, recovery_to, refusal_of}
-use Rattle.crash_recover.specs.declared.core_answers.Start.{Start}
-use Rattle.crash_recover.specs.declared.core_answers.Start.TheVariants as start
-use Rattle.crash_recover.specs.declared.core_faults.CoreFault.{CoreFault}
-use Rattle.crash_recover.specs.declared.core_faults.CoreFault.TheVariants as fault
+use Rattle.crash_recover.specs.declared.core_faults.StartFault.{StartFault}
 use Rattle.link_bench.specs.Benches.{BenchState}
-use Rattle.crash_recover.specs.CoreBoots.{Found, load_in}
-use Rattle.crash_recover.specs.CoreRecoveries.{after_recovery, core_to_reopen, fault_with, recovery_fault, recovery_fault_to, recovery_of, reload_fault, reopen_fault, spent_fault}
-use Rattle.crash_recover.specs.Cores.{CoreOutcome, CoreState, LoadState}
+use Rattle.crash_recover.specs.CoreRecoveries.{fault_with, recovery_fault, recovery_fault_to, reopen_fault, spent_fault}
+use Rattle.crash_recover.specs.Cores.{CoreState}
 
-some_same : {A : Type 0} {x y : A} → Some x ≡ Some y → x ≡ y
-some_same {A} {x} {y} same = ap (λ found. unwrap_or found x) same
-
--- why a core is not started again, where it is not for want of memory
-start_fault : (why : CoreFault) (found : Option CoreFault) → why ≢ fault.NoMemory → option_or found (Some fault.NoMemory) ≡ Some why → found ≡ Some why
-start_fault why None memory is = absurd (memory (some_same (sym is)))
-start_fault why (Some found) memory is = is
-
-none_later : (first later : Option CoreFault) → option_or first later ≡ None → later ≡ None
+none_later : (first later : Option StartFault) → option_or first later ≡ None → later ≡ None
 none_later None later none = none
 none_later (Some why) later none = absurd (true≢false (ap is_some none))
 
@@ -51,12 +39,6 @@ recovers_to (Some state) life may more =
 pub recovers : (core : CoreState) → recovery_fault core.life ≡ None → reopen_fault core ≡ None → (life_after_recovery core.life).answer ≡ Ok tt
 recovers core may opens = recovers_to (line_of core.life.state).recovery core.life may (unspent core opens)
 
--- a recovery whose link is not reopened
-unopened_recovery : (core : CoreState) (found : Found) (why : CoreFault) → recovery_fault core.life ≡ None → reload_fault core found ≡ None → reopen_fault core ≡ Some why
-    → recovery_of core found ≡ record { core = core_to_reopen core; answer = Err why }
-unfolding recovery_of
-unopened_recovery core found why may loads closed = rw may (rw loads (rw closed refl))
-
 loaded_at : (state : LifeState) (life : CoreLife) → recovery_fault_to (line_of state).recovery life ≡ None → is_offline state ≡ false
 loaded_at Offline life may = absurd (true≢false (ap is_some may))
 loaded_at Running life may = refl
@@ -67,17 +49,3 @@ loaded_at Detached life may = refl
 -- a core that may be recovered is loaded
 pub recovery_loaded : (life : CoreLife) → recovery_fault life ≡ None → is_offline life.state ≡ false
 recovery_loaded life may = loaded_at life.state life may
-
--- a restart of a core that an image was loaded for is a recovery
-pub restarted : (core left : CoreState) (found : Found) (given : LoadState) (answer : Result Start CoreFault) → recovery_fault core.life ≡ None → reload_fault core found ≡ None → given ≡ load_in core found
-    → OnOk answer (reopen_fault core ≡ None) → IfOk answer (λ did. did ≡ start.Running (life_after_recovery core.life).life.incarnation) → OnOk answer (left ≡ after_recovery core given)
-    → IfErr answer (λ why. option_or (reopen_fault core) (Some fault.NoMemory) ≡ Some why) → OnErr answer (left ≡ core_to_reopen core) → answer ≢ Err fault.NoMemory
-    → recovery_of core found ≡ record { core = left; answer = answer }
-unfolding recovery_of
-restarted core left found given (Ok did) may loads is opens told done refused ready memory =
-    let End : CoreState → Start → CoreOutcome Start CoreFault = λ after did. record { core = after; answer = Ok did } in
-    rw may (rw loads (rw opens
-    (ap (λ (after : CoreState). End after (start.Running (life_after_recovery core.life).life.incarnation)) (ap (after_recovery core) (sym is) ∙ sym done) ∙ ap (End left) (sym told))))
-restarted core left found given (Err why) may loads is opens told done refused ready memory =
-    let End : CoreState → CoreOutcome Start CoreFault = λ after. record { core = after; answer = Err why } in
-    unopened_recovery core found why may loads (start_fault why (reopen_fault core) (λ same. memory (ap (λ (e : CoreFault). Err e) same)) refused) ∙ ap End (sym ready)

@@ -1,14 +1,18 @@
 -- What a core keeps stays where its link or its life goes on.
-use Rattle.std.proofs.Common.{◌≡◌, ℕ, List, Option, Some, None, IfSome, Result, Ok, Err, OnOk, OnErr, IfOk, IfErr, is_some, option_map, not, sym, ap, subst, ◌∙◌}
+use Rattle.std.proofs.Common.{◌≡◌, ℕ, List, Option, Some, None, IfSome, Result, Ok, Err, OnOk, OnErr, IfOk, IfErr, is_some, option_map, not, refl, sym, ap, subst, ◌∙◌}
 use Rattle.std.proofs.lemmas.Bool.{true≢false}
 use Rattle.rp_base.specs.declared.kinds.LifeState.{LifeState}
 use Rattle.memory_pool.specs.declared.regions.Region.{Region}
 use Rattle.fw_load.specs.declared.loading.Loaded.{Loaded}
 use Rattle.proc_state.specs.Lives.{CoreLife, is_offline}
+use Rattle.link_bench.specs.BenchEnds.{bench_to_reopen}
 use Rattle.link_bench.specs.Benches.{BenchState}
 use Rattle.core_actors.specs.Actors.{ActorsState}
 use Rattle.crash_recover.specs.Cores.{SoundCore}
+use Rattle.crash_recover.specs.CoreRecoveries.{recovery_fault}
 use Rattle.crash_recover.specs.KeptCores.{IsKeptBench, IsReadyLink}
+use Rattle.crash_recover.proofs.KeptBenches.{map_kept, readied}
+use Rattle.crash_recover.proofs.ReadyCores.{readied_link}
 
 -- a link that there is stands ready
 pub found_ready : (state : LifeState) (actors : ActorsState) (bench : BenchState) (found : Option BenchState) → found ≡ Some bench → IsReadyLink state actors found → IsReadyLink state actors (Some bench)
@@ -46,6 +50,14 @@ sound_lives regions book before after name given found left actors acted same un
 pub still_none : {A : Type 0} (f : A → A) (found : Option A) → found ≡ None → option_map f found ≡ None
 still_none f None none = none
 still_none f (Some it) none = absurd (true≢false (ap is_some none))
+
+-- the link that a reopening finds, of a core that may be recovered
+pub sound_readied : (regions : List Region) (book : ℕ) (life : CoreLife) (name : Option (List ℕ)) (given : Option Loaded) (found left : Option BenchState) (actors : ActorsState)
+    → recovery_fault life ≡ None → left ≡ option_map bench_to_reopen found → SoundCore regions book life name given found actors → SoundCore regions book life name given left actors
+sound_readied regions book life name given found left actors may is sound = sound_lives regions book life life name given found left actors actors refl
+    (λ none. is ∙ still_none bench_to_reopen found (sound.unlinked none))
+    (subst (λ (link : Option BenchState). IfSome link (IsKeptBench life)) (sym is) (map_kept life life found bench_to_reopen (readied life) sound.kept))
+    (subst (IsReadyLink life.state actors) (sym is) (readied_link life actors found may sound.ready)) sound
 
 -- a call that did this, or nothing where it failed
 pub did_or_not : {A E : Type 0} (P : BenchState → Type 0) (before done after : BenchState) (answer : Result A E) → OnOk answer (after ≡ done) → OnErr answer (after ≡ before) → P done → P before → P after

@@ -1,10 +1,12 @@
 -- What a boot and a handover of a core answer and leave (`rproc_boot`, `rproc_fw_boot` and `rproc_attach` of Linux remoteproc_core.c; the handover, the faults and their order are own).
-use Rattle.std.specs.Prelude.{◌≡◌, ℕ, ◌==◌, Bool, true, false, not, ◌&&◌, List, [], Option, Some, None, option_map, unwrap_or, Result, Ok, Err, if◌then◌else◌}
+use Rattle.std.specs.Prelude.{◌≡◌, ℕ, ◌==◌, Bool, true, false, not, ◌&&◌, List, [], Option, Some, option_map, unwrap_or, Result, Ok, Err, OnErr, if◌then◌else◌}
 use Rattle.std.specs.Result.{result_map_both, result_ok}
 use Rattle.rp_base.specs.declared.kinds.End.TheVariants as side
-use Rattle.rp_io.specs.Images.{fetch_answer}
-use Rattle.rp_io.specs.declared.faults.FetchFault.{FetchFault}
+use Rattle.rp_io.specs.Images.{ImageAnswer}
 use Rattle.rp_io.specs.declared.faults.FetchFault.TheVariants as fetch
+use Rattle.rp_io.specs.declared.faults.NoImage.TheVariants as no_image
+use Rattle.rp_io.specs.declared.faults.StoreFault.{StoreFault}
+use Rattle.rp_io.specs.declared.faults.StoreFault.TheVariants as store_fault
 use Rattle.elf_image.specs.Images.{entry_of}
 use Rattle.memory_pool.specs.Placements.{placement}
 use Rattle.memory_pool.specs.declared.blocks.Block.{Block}
@@ -14,8 +16,6 @@ use Rattle.fw_load.specs.Memory.{memory_at, memory_of}
 use Rattle.fw_load.specs.Rings.{pair_from, traces_of}
 use Rattle.resource_table.specs.Entries.{entries_of}
 use Rattle.fw_load.specs.Tables.{entries_in, patched_in, table_of}
-use Rattle.fw_load.specs.declared.faults.LoadFault.{LoadFault}
-use Rattle.fw_load.specs.declared.faults.LoadFault.TheVariants as load
 use Rattle.fw_load.specs.declared.rings.RingPair.{RingPair}
 use Rattle.proc_state.specs.Lives.{CoreLife, is_offline, life_after_boot, life_after_handover, most}
 use Rattle.proc_state.specs.declared.answers.LifeFault.{LifeFault}
@@ -30,25 +30,25 @@ use Rattle.crash_recover.specs.declared.core_answers.Start.{Start}
 use Rattle.crash_recover.specs.declared.core_answers.Start.TheVariants as start
 use Rattle.crash_recover.specs.declared.core_faults.CoreFault.{CoreFault}
 use Rattle.crash_recover.specs.declared.core_faults.CoreFault.TheVariants as fault
+use Rattle.crash_recover.specs.declared.core_faults.StartFault.{StartFault}
+use Rattle.crash_recover.specs.declared.core_faults.StartFault.TheVariants as start_fault
 use Rattle.link_bench.specs.Benches.{BenchState, new_bench_of, with_new_caller}
 use Rattle.core_actors.specs.Actors.{driver_names, fresh_actors}
 use Rattle.crash_recover.specs.Cores.{CoreOutcome, CoreState, LoadState, loaded_rings, refuse_or}
 
--- the refusal of a load, where want of memory stands alone
-abbrev pub core_fault_of_load : LoadFault → CoreFault
-core_fault_of_load load.NoMemory = fault.NoMemory
-core_fault_of_load (load.Elf why) = fault.Load (load.Elf why)
-core_fault_of_load (load.Table why) = fault.Load (load.Table why)
-core_fault_of_load (load.Place why) = fault.Load (load.Place why)
-core_fault_of_load (load.SegmentUnmapped index) = fault.Load (load.SegmentUnmapped index)
-core_fault_of_load load.EntryUnmapped = fault.Load load.EntryUnmapped
+-- why a store tells nothing of an image, as a call that asks it answers that
+abbrev pub core_fault_of_store : StoreFault → CoreFault
+core_fault_of_store store_fault.Failed = fault.Fetch fetch.Failed
+core_fault_of_store store_fault.NoMemory = fault.NoMemory
 
--- the refusal of a fetch, where want of memory stands alone
-abbrev pub core_fault_of_fetch : FetchFault → CoreFault
-core_fault_of_fetch fetch.Missing = fault.Fetch fetch.Missing
-core_fault_of_fetch fetch.Failed = fault.Fetch fetch.Failed
-core_fault_of_fetch (fetch.TooLarge bytes) = fault.Fetch (fetch.TooLarge bytes)
-core_fault_of_fetch fetch.NoMemory = fault.NoMemory
+-- a refusal of a start, as a call that asks a store answers it
+abbrev pub core_fault_of_start : StartFault → CoreFault
+core_fault_of_start (start_fault.NoImage no_image.Missing) = fault.Fetch fetch.Missing
+core_fault_of_start (start_fault.NoImage (no_image.TooLarge bytes)) = fault.Fetch (fetch.TooLarge bytes)
+core_fault_of_start (start_fault.Load why) = fault.Load why
+core_fault_of_start (start_fault.Life why) = fault.Life why
+core_fault_of_start start_fault.RingsChanged = fault.RingsChanged
+core_fault_of_start (start_fault.Reopen why) = fault.Reopen why
 
 -- what an image becomes, by where its table's entries are placed
 abbrev pub load_over : List ℕ → List Region → List Block → LoadState
@@ -82,17 +82,13 @@ core_bench names book first rings =
 
 -- ---- images
 
--- an image that was found under a name, or why there is none
-abbrev pub Found : Type 0
-Found = Result (List ℕ) FetchFault
-
 -- why an image is not loaded into a core: there is none, or it may not be loaded
-abbrev pub image_fault : CoreState → Found → Option CoreFault
-image_fault core (Ok image) = option_map fault.Load (load_fault image core.regions)
-image_fault core (Err why) = Some (core_fault_of_fetch why)
+abbrev pub image_fault : CoreState → ImageAnswer → Option StartFault
+image_fault core (Ok image) = option_map start_fault.Load (load_fault image core.regions)
+image_fault core (Err why) = Some (start_fault.NoImage why)
 
 -- what an image that was found becomes in a core
-abbrev pub load_in : CoreState → Found → LoadState
+abbrev pub load_in : CoreState → ImageAnswer → LoadState
 load_in core (Ok image) = load_of image core.regions
 load_in core (Err why) = load_of [] core.regions
 
@@ -119,7 +115,7 @@ abbrev pub needs_image : CoreState → Bool
 needs_image core = is_offline core.life.state && not (core.life.incarnation == most)
 
 -- the first user of a core starts it in this life: an offline core loads an image, and a detached one is attached as it is
-abbrev pub first_boot : CoreLife → CoreState → List ℕ → Found → CoreOutcome Start CoreFault
+abbrev pub first_boot : CoreLife → CoreState → List ℕ → ImageAnswer → CoreOutcome Start StartFault
 first_boot life core name found =
     if is_offline core.life.state then refuse_or core (image_fault core found) (record {
       core = started_core life (with_load core name (load_in core found));
@@ -128,49 +124,40 @@ first_boot life core name found =
     else record { core = started_core life core; answer = Ok (start.Attached life.incarnation) }
 
 -- a boot that leaves this life, by what the life answers
-abbrev pub boot_as : CoreLife → Result Power LifeFault → CoreState → List ℕ → Found → CoreOutcome Start CoreFault
-boot_as life (Err why) core name found = record { core = core; answer = Err (fault.Life why) }
+abbrev pub boot_as : CoreLife → Result Power LifeFault → CoreState → List ℕ → ImageAnswer → CoreOutcome Start StartFault
+boot_as life (Err why) core name found = record { core = core; answer = Err (start_fault.Life why) }
 boot_as life (Ok (power.Counted users)) core name found = record { core = record core { life = life }; answer = Ok (start.Users users) }
 boot_as life (Ok power.First) core name found = first_boot life core name found
 
 -- a boot with an image that was found under this name, or wasn't
-unfoldable pub boot_of : CoreState → List ℕ → Found → CoreOutcome Start CoreFault
+unfoldable pub boot_of : CoreState → List ℕ → ImageAnswer → CoreOutcome Start StartFault
 boot_of core name found = boot_as (life_after_boot core.life).life (life_after_boot core.life).answer core name found
 
--- a boot that goes as far as it can without an image: it is done, or refused, whatever image would be found, or it needs one, with which the core comes to its next life (own)
-abbrev pub BeginsBoot : CoreState → CoreState → Result Boot CoreFault → Type 0
-BeginsBoot core left (Ok (boot.Done did)) =
-    (needs_image core ≡ false) × ((name : List ℕ) (found : Found) → boot_of core name found ≡ record { core = left; answer = Ok did })
-BeginsBoot core left (Ok (boot.NeedsImage life)) = (needs_image core ≡ true) × (life ≡ (life_after_boot core.life).life) × (left ≡ core)
-BeginsBoot core left (Err why) =
-    (needs_image core ≡ false) × ((name : List ℕ) (found : Found) → boot_of core name found ≡ record { core = left; answer = Err why })
+-- a boot that goes as far as it can without an image: it is done, or refused and the core as it was, whatever image would be found, or it needs one, with which the core comes to its next life (own)
+abbrev pub BeginsBoot : CoreState → CoreState → Boot → Type 0
+BeginsBoot core left (boot.Done answer) =
+    (needs_image core ≡ false) × OnErr answer (left ≡ core) × ((name : List ℕ) (found : ImageAnswer) → boot_of core name found ≡ record { core = left; answer = answer })
+BeginsBoot core left (boot.NeedsImage life) = (needs_image core ≡ true) × (life ≡ (life_after_boot core.life).life) × (left ≡ core)
 
 -- ---- handovers
 
 -- a handover that leaves this life, by what the life answers: the other party has loaded the image
-abbrev pub handover_as : CoreLife → Result (Unit {0}) LifeFault → CoreState → List ℕ → Found → CoreOutcome Start CoreFault
-handover_as life (Err why) core name found = record { core = core; answer = Err (fault.Life why) }
+abbrev pub handover_as : CoreLife → Result (Unit {0}) LifeFault → CoreState → List ℕ → ImageAnswer → CoreOutcome Start StartFault
+handover_as life (Err why) core name found = record { core = core; answer = Err (start_fault.Life why) }
 handover_as life (Ok done) core name found = refuse_or core (image_fault core found) (record {
   core = record (with_load core name (load_in core found)) { life = life };
   answer = Ok start.Detached;
 })
 
 -- a handover with an image that was found under this name, or wasn't
-unfoldable pub handover_of : CoreState → List ℕ → Found → CoreOutcome Start CoreFault
+unfoldable pub handover_of : CoreState → List ℕ → ImageAnswer → CoreOutcome Start StartFault
 handover_of core name found = handover_as (life_after_handover core.life).life (life_after_handover core.life).answer core name found
 
 -- ---- calls that ask a store
 
--- where told: what a store of these images has under a name; what it answers where it fails or memory runs out says nothing of them
-abbrev pub IsFoundIn : Option (List (List ℕ × List ℕ)) → List ℕ → Found → Type 0
-IsFoundIn None name found = Unit {0}
-IsFoundIn (Some images) name (Err fetch.Failed) = Unit {0}
-IsFoundIn (Some images) name (Err fetch.NoMemory) = Unit {0}
-IsFoundIn (Some images) name found = fetch_answer images name ≡ found
-
 -- a call of a core did what this does with what a store has
-pub record DidWith {A : Type 0} (IsHad : Found → Type 0) (does : Found → CoreOutcome A CoreFault) (left : CoreState) (answer : Result A CoreFault) : Type 0 where
-  pub found : Found
+pub record DidWith {A : Type 0} (IsHad : ImageAnswer → Type 0) (does : ImageAnswer → CoreOutcome A CoreFault) (left : CoreState) (answer : Result A CoreFault) : Type 0 where
+  pub found : ImageAnswer
   pub had : IsHad found
   pub core : left ≡ (does found).core
   pub answers : answer ≡ (does found).answer
@@ -183,8 +170,8 @@ power_of (start.Attached inc) = power.First
 power_of start.Detached = power.First
 
 -- the same outcome, answered in short
-abbrev pub in_short : {A B : Type 0} → (A → B) → CoreOutcome A CoreFault → CoreOutcome B CoreFault
-in_short short outcome = record { core = outcome.core; answer = result_map_both short (λ why. why) outcome.answer }
+abbrev pub in_short : {A B E G : Type 0} → (A → B) → (E → G) → CoreOutcome A E → CoreOutcome B G
+in_short short why outcome = record { core = outcome.core; answer = result_map_both short why outcome.answer }
 
 -- an answer of which no more is told than that there is one
 abbrev pub as_unit : {A : Type 0} → A → Unit {0}

@@ -1,10 +1,9 @@
 -- What a recovery of a core answers and leaves (`rproc_trigger_recovery` of Linux remoteproc_core.c; the faults and their order, and what becomes of the callers, are own).
-use Rattle.std.specs.Prelude.{◌≡◌, ℕ, ◌+◌, ◌==◌, Bool, true, false, not, ◌&&◌, List, Option, Some, None, Ok, Err, option_map, option_and_then, if◌then◌else◌}
+use Rattle.std.specs.Prelude.{ℕ, ◌+◌, ◌==◌, Bool, true, false, not, ◌&&◌, List, Option, Some, None, Ok, option_map, option_and_then, if◌then◌else◌}
 use Rattle.std.specs.Option.{option_or}
-use Rattle.std.specs.Str.{is_utf8}
 use Rattle.rp_base.specs.declared.kinds.LifeState.{LifeState}
 use Rattle.rp_base.specs.declared.kinds.LifeState.TheVariants.{Running}
-use Rattle.rp_io.specs.declared.faults.FetchFault.TheVariants as fetch
+use Rattle.rp_io.specs.Images.{ImageAnswer, text_name}
 use Rattle.resource_table.specs.declared.entries.Ring.{Ring}
 use Rattle.fw_load.specs.declared.rings.RingPair.{RingPair}
 use Rattle.proc_state.specs.Lives.{CoreLife, life_after_recovery, line_of, most}
@@ -12,13 +11,13 @@ use Rattle.proc_state.specs.declared.answers.LifeFault.{LifeFault}
 use Rattle.proc_state.specs.declared.answers.LifeFault.TheVariants as life_fault
 use Rattle.crash_recover.specs.declared.core_answers.Start.{Start}
 use Rattle.crash_recover.specs.declared.core_answers.Start.TheVariants as start
-use Rattle.crash_recover.specs.declared.core_faults.CoreFault.{CoreFault}
-use Rattle.crash_recover.specs.declared.core_faults.CoreFault.TheVariants as fault
+use Rattle.crash_recover.specs.declared.core_faults.StartFault.{StartFault}
+use Rattle.crash_recover.specs.declared.core_faults.StartFault.TheVariants as start_fault
 use Rattle.core_actors.specs.Actors.{fresh_actors}
 use Rattle.link_bench.specs.Benches.{BenchState}
 use Rattle.link_bench.specs.BenchCrashes.{after_reopen}
 use Rattle.link_bench.specs.BenchEnds.{bench_to_reopen, reopen_refusal_of}
-use Rattle.crash_recover.specs.CoreBoots.{Found, IsFoundIn, image_fault, load_in}
+use Rattle.crash_recover.specs.CoreBoots.{image_fault, load_in}
 use Rattle.crash_recover.specs.Cores.{CoreOutcome, CoreState, LoadState, loaded_rings, refuse_or}
 
 -- why a core is not recovered, whatever the image, by where a recovery leads from its state
@@ -51,28 +50,28 @@ same_rings None (Some other) = false
 same_rings None None = true
 
 -- a load with other rings than the one before
-abbrev pub rings_fault : CoreState → LoadState → Option CoreFault
-rings_fault core given = if same_rings (loaded_rings core.loaded) given.rings then None else Some fault.RingsChanged
+abbrev pub rings_fault : CoreState → LoadState → Option StartFault
+rings_fault core given = if same_rings (loaded_rings core.loaded) given.rings then None else Some start_fault.RingsChanged
 
 -- why an image is refused for a recovery: there is none, it may not be loaded, or it has other rings
-abbrev pub reload_fault : CoreState → Found → Option CoreFault
+abbrev pub reload_fault : CoreState → ImageAnswer → Option StartFault
 reload_fault core found = option_or (image_fault core found) (rings_fault core (load_in core found))
 
 -- no incarnation is left
-abbrev pub spent_fault : Bool → Option CoreFault
-spent_fault is_spent = if is_spent then Some (fault.Life life_fault.IncarnationsSpent) else None
+abbrev pub spent_fault : Bool → Option StartFault
+spent_fault is_spent = if is_spent then Some (start_fault.Life life_fault.IncarnationsSpent) else None
 
 -- why a link is not reopened for a core: something keeps it from being reopened, or no incarnation is left
-abbrev pub link_fault : BenchState → Bool → Option CoreFault
-link_fault bench is_spent = option_or (option_map fault.Reopen (reopen_refusal_of bench)) (spent_fault is_spent)
+abbrev pub link_fault : BenchState → Bool → Option StartFault
+link_fault bench is_spent = option_or (option_map start_fault.Reopen (reopen_refusal_of bench)) (spent_fault is_spent)
 
 -- the same of a core that may have none
-abbrev pub fault_with : Option BenchState → Bool → Option CoreFault
+abbrev pub fault_with : Option BenchState → Bool → Option StartFault
 fault_with None is_spent = spent_fault is_spent
 fault_with (Some bench) is_spent = link_fault bench is_spent
 
 -- why a core is not started again: its link is not reopened, or no incarnation is left
-abbrev pub reopen_fault : CoreState → Option CoreFault
+abbrev pub reopen_fault : CoreState → Option StartFault
 reopen_fault core = fault_with core.bench (core.life.incarnation == most)
 
 -- the core when its link was to be reopened: as soon as caller 0 is reclaimed there is a new host caller
@@ -100,20 +99,15 @@ after_recovery core given = record (reopened_core core) {
 }
 
 -- a recovery with an image that was found, or wasn't: its life's fault comes first, then those of the image, and last that the link isn't reopened
-unfoldable pub recovery_of : CoreState → Found → CoreOutcome Start CoreFault
+unfoldable pub recovery_of : CoreState → ImageAnswer → CoreOutcome Start StartFault
 recovery_of core found =
-    refuse_or core (option_map fault.Life (recovery_fault core.life))
+    refuse_or core (option_map start_fault.Life (recovery_fault core.life))
     (refuse_or core (reload_fault core found)
     (refuse_or (core_to_reopen core) (reopen_fault core) (record {
       core = after_recovery core (load_in core found);
       answer = Ok (start.Running (life_after_recovery core.life).life.incarnation);
     })))
 
--- the name under which a store is asked for the image that was booted or handed over: it is a text, as the names of a store are
+-- the name under which a store is asked for the image that was booted or handed over
 abbrev pub asked_text : Option (List ℕ) → Option (List ℕ)
-asked_text booted = option_and_then (λ name. if is_utf8 name then Some name else None) booted
-
--- where told: what the store has under the name asked for; a name that is no text is missing in each store
-abbrev pub IsFoundAs : Option (List (List ℕ × List ℕ)) → Option (List ℕ) → Found → Type 0
-IsFoundAs images None found = found ≡ Err fetch.Missing
-IsFoundAs images (Some name) found = IsFoundIn images name found
+asked_text booted = option_and_then text_name booted

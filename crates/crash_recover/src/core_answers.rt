@@ -3,14 +3,15 @@ ghost use Rattle.crash_recover.specs.CoreBoots.{power_of};
 ghost use Rattle.crash_recover.specs.CoreCrashes.{report_in_short};
 ghost use Rattle.crash_recover.specs.CoreLeaves.{leave_in_short};
 
+use crate::core_faults::{CoreFault, StartFault};
 use proc_state::{Left, Life, Power, Report};
 use rp_base::Inc;
 
 /// How far a boot of a core comes without an image.
 #[derive(Drop)]
 pub enum Boot {
-    /// It did this.
-    Done(Start),
+    /// It did this, or was refused.
+    Done(Result<Start, StartFault>),
     /// The core is offline and needs an image, with which it comes to this life. Nothing has changed.
     NeedsImage(Life),
 }

@@ -4,7 +4,7 @@ use lane_model::ReopenFault;
 use memory_pool::RegionFault;
 use proc_state::LifeFault;
 use rp_base::{CallerNo, NoMemory};
-use rp_io::FetchFault;
+use rp_io::{FetchFault, NoImage, StoreFault};
 
 /// Why a region or a driver is not added to a core.
 #[derive(Debug, Drop)]
@@ -56,7 +56,43 @@ pub const RINGS_CHANGED: u8 = 42;
 /// The number of the fault of a host caller that keeps a core from being shut down or detached.
 pub const CALLER_OUT: u8 = 54;
 
-/// Why a core is not booted, handed over, shut down, detached or recovered. A fault inside another is never want of memory.
+/// Why a core is not booted, handed over or recovered. A fault inside another is never want of memory.
+#[derive(Debug, Drop)]
+pub enum StartFault {
+    /// There is no image.
+    NoImage(NoImage),
+    /// The image is not loaded.
+    Load(LoadFault),
+    /// The life of the core refuses it.
+    Life(LifeFault),
+    /// The image of a recovery has other rings than the one before.
+    RingsChanged,
+    /// The link is not reopened.
+    Reopen(ReopenFault),
+}
+
+/// Why a core is not shut down or detached.
+#[derive(Debug, Drop)]
+pub enum LeaveFault {
+    /// The life of the core refuses it.
+    Life(LifeFault),
+    /// This host caller is in a call or holds a buffer.
+    CallerOut(CallerNo),
+}
+
+impl From<LifeFault> for LeaveFault {
+    ghost use Rattle.std.specs.Prelude.{◌≡◌};
+    ghost use Rattle.crash_recover.specs.declared.core_faults.LeaveFault.TheVariants as fault;
+
+    ghost from_gives = { λ refused e. e ≡ fault.Life refused };
+
+    fn from(refused: LifeFault) -> LeaveFault {
+        LeaveFault::Life(refused)
+    }
+}
+
+/// Why a core is not booted, handed over or recovered over a store, shut down or detached. A fault inside
+/// another is never want of memory.
 #[derive(Debug, Drop)]
 pub enum CoreFault {
     /// The store gives no image.
@@ -97,30 +133,50 @@ impl From<LifeFault> for CoreFault {
     }
 }
 
-impl From<LoadFault> for CoreFault {
+impl From<StartFault> for CoreFault {
     ghost use Rattle.std.specs.Prelude.{◌≡◌};
-    ghost use Rattle.crash_recover.specs.CoreBoots.{core_fault_of_load};
+    ghost use Rattle.crash_recover.specs.CoreBoots.{core_fault_of_start};
 
-    ghost from_gives = { λ refused e. e ≡ core_fault_of_load refused };
+    ghost from_gives = { λ refused e. e ≡ core_fault_of_start refused };
 
-    fn from(refused: LoadFault) -> CoreFault {
+    fn from(refused: StartFault) -> CoreFault {
         match refused {
-            LoadFault::NoMemory => CoreFault::NoMemory,
-            _ => CoreFault::Load(refused),
+            StartFault::NoImage(NoImage::Missing) => CoreFault::Fetch(FetchFault::Missing),
+            StartFault::NoImage(NoImage::TooLarge(bytes)) => {
+                CoreFault::Fetch(FetchFault::TooLarge(bytes))
+            }
+            StartFault::Load(fault) => CoreFault::Load(fault),
+            StartFault::Life(fault) => CoreFault::Life(fault),
+            StartFault::RingsChanged => CoreFault::RingsChanged,
+            StartFault::Reopen(fault) => CoreFault::Reopen(fault),
         }
     }
 }
 
-impl From<FetchFault> for CoreFault {
+impl From<LeaveFault> for CoreFault {
     ghost use Rattle.std.specs.Prelude.{◌≡◌};
-    ghost use Rattle.crash_recover.specs.CoreBoots.{core_fault_of_fetch};
+    ghost use Rattle.crash_recover.specs.CoreLeaves.{core_fault_of_leave};
 
-    ghost from_gives = { λ refused e. e ≡ core_fault_of_fetch refused };
+    ghost from_gives = { λ refused e. e ≡ core_fault_of_leave refused };
 
-    fn from(refused: FetchFault) -> CoreFault {
+    fn from(refused: LeaveFault) -> CoreFault {
         match refused {
-            FetchFault::NoMemory => CoreFault::NoMemory,
-            _ => CoreFault::Fetch(refused),
+            LeaveFault::Life(fault) => CoreFault::Life(fault),
+            LeaveFault::CallerOut(caller) => CoreFault::CallerOut(caller),
+        }
+    }
+}
+
+impl From<StoreFault> for CoreFault {
+    ghost use Rattle.std.specs.Prelude.{◌≡◌};
+    ghost use Rattle.crash_recover.specs.CoreBoots.{core_fault_of_store};
+
+    ghost from_gives = { λ failed e. e ≡ core_fault_of_store failed };
+
+    fn from(failed: StoreFault) -> CoreFault {
+        match failed {
+            StoreFault::Failed => CoreFault::Fetch(FetchFault::Failed),
+            StoreFault::NoMemory => CoreFault::NoMemory,
         }
     }
 }

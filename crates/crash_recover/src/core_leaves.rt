@@ -3,11 +3,11 @@ ghost use Rattle.link_bench.specs.BenchHolds.{caller_out};
 ghost use Rattle.rp_base.specs.declared.kinds.LifeState.TheVariants as state;
 ghost use Rattle.proc_state.specs.Lives.{is_offline};
 ghost use Rattle.crash_recover.specs.CoreBoots.{in_short};
-ghost use Rattle.crash_recover.specs.CoreLeaves.{detach_of, detached_core, last_leave, leave_in_short, live_inc, shutdown_of, unloaded_core};
+ghost use Rattle.crash_recover.specs.CoreLeaves.{core_fault_of_leave, detach_of, detached_core, last_leave, leave_in_short, live_inc, shutdown_of, unloaded_core};
 ghost use Rattle.crash_recover.specs.declared.core_answers.Leave.TheVariants as leave;
 
 use crate::core_answers::Leave;
-use crate::core_faults::CoreFault;
+use crate::core_faults::{CoreFault, LeaveFault};
 use crate::cores::Core;
 use proc_state::{Left, Life};
 use rp_base::{CallerNo, Inc};
@@ -21,7 +21,7 @@ impl Core {
     /// [`CoreFault::CallerOut`] with the least host caller other than 0 that is in a call or holds a
     /// buffer, where the last user leaves. The core is as it was then.
     pub fn shutdown(&mut self) -> Result<Left, CoreFault>
-        ensures answer { result ≡ (in_short leave_in_short (shutdown_of true self.old)).answer }
+        ensures answer { result ≡ (in_short leave_in_short core_fault_of_leave (shutdown_of true self.old)).answer }
         ensures left { self.new ≡ (shutdown_of true self.old).core }
     {
         Ok(self.shutdown_within(true)?.left())
@@ -30,7 +30,7 @@ impl Core {
     /// The same, where a step may be taken or not: the close of a live link is one. Where it may not,
     /// the answer is [`Leave::Limit`], and the core is as it was.
     #[tactic(auto, unfolding(crate::specs::CoreLeaves::shutdown_of))]
-    pub fn shutdown_within(&mut self, may_step: bool) -> Result<Leave, CoreFault>
+    pub fn shutdown_within(&mut self, may_step: bool) -> Result<Leave, LeaveFault>
         ensures answer { result ≡ (shutdown_of may_step self.old).answer }
         ensures left { self.new ≡ (shutdown_of may_step self.old).core }
         ensures step { (inc : ℕ) → result ≡ Ok (leave.Last (Some inc)) → may_step ≡ true }
@@ -46,14 +46,14 @@ impl Core {
     }
 
     /// Takes the last user away from a core that goes offline.
-    fn shut_last(&mut self, life: Life, may_step: bool) -> Result<Leave, CoreFault>
+    fn shut_last(&mut self, life: Life, may_step: bool) -> Result<Leave, LeaveFault>
         requires state { life.state ≡ state.Offline }
         ensures answer { result ≡ (last_leave may_step self.old (unloaded_core life self.old)).answer }
         ensures left { self.new ≡ (last_leave may_step self.old (unloaded_core life self.old)).core }
         ensures step { (inc : ℕ) → result ≡ Ok (leave.Last (Some inc)) → may_step ≡ true }
     {
         if let Some(caller) = self.caller_out() {
-            return Err(CoreFault::CallerOut(caller));
+            return Err(LeaveFault::CallerOut(caller));
         }
         let live = self.live_inc();
         if live.is_some() && !may_step {
@@ -80,7 +80,7 @@ impl Core {
     /// Errors: [`CoreFault::Life`] where the core isn't attached, then [`CoreFault::CallerOut`] as
     /// [`Core::shutdown`] answers it. The core is as it was then.
     pub fn detach(&mut self) -> Result<Left, CoreFault>
-        ensures answer { result ≡ (in_short leave_in_short (detach_of true self.old)).answer }
+        ensures answer { result ≡ (in_short leave_in_short core_fault_of_leave (detach_of true self.old)).answer }
         ensures left { self.new ≡ (detach_of true self.old).core }
     {
         Ok(self.detach_within(true)?.left())
@@ -89,7 +89,7 @@ impl Core {
     /// The same, where a step may be taken or not: the close of a live link is one. Where it may not,
     /// the answer is [`Leave::Limit`], and the core is as it was.
     #[tactic(auto, unfolding(crate::specs::CoreLeaves::detach_of))]
-    pub fn detach_within(&mut self, may_step: bool) -> Result<Leave, CoreFault>
+    pub fn detach_within(&mut self, may_step: bool) -> Result<Leave, LeaveFault>
         ensures answer { result ≡ (detach_of may_step self.old).answer }
         ensures left { self.new ≡ (detach_of may_step self.old).core }
         ensures step { (inc : ℕ) → result ≡ Ok (leave.Last (Some inc)) → may_step ≡ true }
@@ -105,7 +105,7 @@ impl Core {
     }
 
     /// Takes the last user away from an attached core.
-    fn detach_last(&mut self, life: Life, may_step: bool) -> Result<Leave, CoreFault>
+    fn detach_last(&mut self, life: Life, may_step: bool) -> Result<Leave, LeaveFault>
         requires state { life.state ≡ state.Detached }
         requires loaded { is_offline self.old.life.state ≡ false }
         ensures answer { result ≡ (last_leave may_step self.old (detached_core life self.old)).answer }
@@ -113,7 +113,7 @@ impl Core {
         ensures step { (inc : ℕ) → result ≡ Ok (leave.Last (Some inc)) → may_step ≡ true }
     {
         if let Some(caller) = self.caller_out() {
-            return Err(CoreFault::CallerOut(caller));
+            return Err(LeaveFault::CallerOut(caller));
         }
         let live = self.live_inc();
         if live.is_some() && !may_step {

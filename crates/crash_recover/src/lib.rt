@@ -17,7 +17,7 @@ mod cores;
 pub use core_actors::{Actor, Actors, Driven};
 pub use core_answers::{Boot, Crash, Leave, Start};
 pub use core_callers::StepFault;
-pub use core_faults::{AddFault, CALLER_OUT, CoreFault, RINGS_CHANGED};
+pub use core_faults::{AddFault, CALLER_OUT, CoreFault, LeaveFault, RINGS_CHANGED, StartFault};
 pub use cores::Core;
 pub use link_bench::{
     ActAnswer, BegunCall, Bench, BenchFault, CallWish, How, LinkAct, Nobody, Reach, Reclaim,

@@ -2,12 +2,13 @@
 use Rattle.std.proofs.Common.{◌≡◌, ◌⊎◌, inr, ⊎_elim, ◌<◌, ◌≤◌, ℕ, zero, suc, ◌+◌, ◌*◌, ◌==◌, Bool, true, false, cond, ltb, List, [], ◌∷◌, ◌++◌, All, length, Option, Some, None, IfSome, Result, Ok, Err, slice_get, is_some, refl, sym, ap, subst, ◌∙◌, arith}
 use Rattle.std.proofs.lemmas.Bool.{cond_both, true≢false}
 use Rattle.std.proofs.lemmas.List.Elements.{All-nil, All-push, All-set}
+use Rattle.rp_io.specs.Images.{ImageAnswer}
 use Rattle.rp_base.specs.declared.kinds.DriverKind.{DriverKind}
 use Rattle.rp_base.specs.declared.kinds.DriverKind.TheVariants as driver
 use Rattle.rp_base.specs.declared.kinds.LifeState.{LifeState}
 use Rattle.rp_base.specs.declared.kinds.LifeState.TheVariants.{Offline, Running, Crashed, Attached, Detached}
 use Rattle.rp_base.specs.declared.limits.TheConstants.{STEPS_MOST}
-use Rattle.rp_io.specs.declared.faults.FetchFault.TheVariants as fetch_fault
+use Rattle.rp_io.specs.declared.faults.NoImage.TheVariants as no_image
 use Rattle.memory_pool.specs.declared.regions.Region.{Region}
 use Rattle.memory_pool.specs.Regions.{standard_regions}
 use Rattle.proc_state.specs.Lives.{CoreLife, Outcome, boot_to, first_start, is_offline, is_up, leave_to, life_after_boot, life_after_shutdown, line_of, most, refusal_of, without_user}
@@ -19,8 +20,10 @@ use Rattle.journal.specs.declared.events.Event.TheVariants as event
 use Rattle.image_maker.specs.Demo.{core_commands, demo_commands, first_sessions, number_at, reply_length, sample_channel, session_commands, session_core, worker_lines}
 use Rattle.image_maker.specs.Images.{image_of}
 use Rattle.crash_recover.specs.declared.core_faults.AddFault.{AddFault}
-use Rattle.crash_recover.specs.declared.core_faults.CoreFault.{CoreFault}
-use Rattle.crash_recover.specs.CoreBoots.{Found, boot_as, boot_of, first_boot, image_fault, load_in, load_of, started_core, with_load}
+use Rattle.crash_recover.specs.declared.core_faults.LeaveFault.{LeaveFault}
+use Rattle.crash_recover.specs.declared.core_faults.LeaveFault.TheVariants as leave_fault
+use Rattle.crash_recover.specs.declared.core_faults.StartFault.{StartFault}
+use Rattle.crash_recover.specs.CoreBoots.{boot_as, boot_of, first_boot, image_fault, load_in, load_of, started_core, with_load}
 use Rattle.crash_recover.specs.CoreLeaves.{close_or, leave_as, live_inc, shutdown_of, unloaded_core}
 use Rattle.crash_recover.specs.declared.core_answers.Leave.{Leave}
 use Rattle.crash_recover.specs.declared.core_answers.Leave.TheVariants as leave
@@ -68,7 +71,7 @@ use Rattle.run_laws.proofs.RunWalks.{item_at}
 use Rattle.run_laws.proofs.ScriptDrives.{awake, drive_as, steps_keep}
 use Rattle.fw_load.specs.Loading.{Loads, load_fault}
 use Rattle.remote_core.specs.Workers.{WorkerState, new_worker}
-use Rattle.crash_recover.specs.declared.core_faults.CoreFault.TheVariants as core_fault
+use Rattle.crash_recover.specs.declared.core_faults.StartFault.TheVariants as start_fault
 use Rattle.demo_laws.proofs.BootBounds.{AreRoomy, boot_within, users_within}
 use Rattle.demo_laws.proofs.DriveBounds.{IsProgram, IsWithin, drive_within, more_on}
 use Rattle.crash_recover.proofs.SameLives.{no_first}
@@ -189,14 +192,14 @@ module _ (Fits : WorkerState → Type 0) (records credit : WorkerState → ℕ) 
       (λ _. demo_found later name (All-tail (λ (image : ImageState). IsDemoImage image.bytes) first later all))
 
   -- an image that was found is that of a worker of a demo
-  abbrev IsDemoFound : Found → Type 0
+  abbrev IsDemoFound : ImageAnswer → Type 0
   IsDemoFound (Ok bytes) = IsDemoImage bytes × (length bytes ≤ IMAGE_MOST)
   IsDemoFound (Err why) = Unit {0}
 
-  told_found : (found : Option (List ℕ)) → IfSome found IsDemoImage → IsDemoFound (found_or_told (Err fetch_fault.Missing) found)
+  told_found : (found : Option (List ℕ)) → IfSome found IsDemoImage → IsDemoFound (found_or_told (Err no_image.Missing) found)
   told_found None is_demo = tt
   told_found (Some bytes) is_demo =
-      cond_both (nat_le (length bytes) IMAGE_MOST) (Ok bytes) (Err (fetch_fault.TooLarge (length bytes))) IsDemoFound
+      cond_both (nat_le (length bytes) IMAGE_MOST) (Ok bytes) (Err (no_image.TooLarge (length bytes))) IsDemoFound
       (λ fits. (is_demo, leb-true (length bytes) IMAGE_MOST fits)) (λ _. tt)
 
   module _ (name image : List ℕ) (core : CoreState) (steps : ℕ) (is : IsCalm core) where
@@ -223,22 +226,22 @@ module _ (Fits : WorkerState → Type 0) (records credit : WorkerState → ℕ) 
           (started life reply running small (subst (λ (b : List ℕ). length b ≤ IMAGE_MOST) same short) (subst (λ (b : List ℕ). load_fault b core.regions ≡ None) same fits));
     }
 
-    loaded : (life : CoreLife) (found : Found) → life.state ≡ Running → IsDemoFound found
+    loaded : (life : CoreLife) (found : ImageAnswer) → life.state ≡ Running → IsDemoFound found
         → IsCalm (refuse_or core (image_fault core found) (record { core = started_core life (with_load core image (load_in core found)); answer = Ok (start.Running life.incarnation) })).core
     loaded life (Err why) running is_demo = is
     loaded life (Ok bytes) running is_demo =
-        refused IsCalm core (image_fault core (Ok bytes)) _ is (λ fits. starts life bytes running is_demo.0 is_demo.1 (none_mapped core_fault.Load (load_fault bytes core.regions) fits))
+        refused IsCalm core (image_fault core (Ok bytes)) _ is (λ fits. starts life bytes running is_demo.0 is_demo.1 (none_mapped start_fault.Load (load_fault bytes core.regions) fits))
 
     first_running : (answer : (first_start Running 1 power.First core.life).answer ≡ Ok power.First) → (first_start Running 1 power.First core.life).life.state ≡ Running
     first_running =
         cond_both (core.life.incarnation == most) (refusal_of life_fault.IncarnationsSpent core.life) _ (λ (out : Outcome Power). out.answer ≡ Ok power.First → out.life.state ≡ Running)
         (λ _ is. absurd (cc)) (λ _ _. refl)
 
-    first_at : (state : LifeState) (found : Found) → core.life.state ≡ state → (boot_to (line_of state).boot core.life).answer ≡ Ok power.First → IsDemoFound found
+    first_at : (state : LifeState) (found : ImageAnswer) → core.life.state ≡ state → (boot_to (line_of state).boot core.life).answer ≡ Ok power.First → IsDemoFound found
         → IsCalm (first_boot (boot_to (line_of state).boot core.life).life core image found).core
     first_at Offline found there first is_demo =
         let life = (first_start Running 1 power.First core.life).life in
-        cond_both (is_offline core.life.state) _ _ (λ (out : CoreOutcome Start CoreFault). IsCalm out.core)
+        cond_both (is_offline core.life.state) _ _ (λ (out : CoreOutcome Start StartFault). IsCalm out.core)
         (λ _. loaded life found (first_running first) is_demo)
         (λ other. absurd (true≢false (sym (ap is_offline there) ∙ other)))
     first_at Running found there first is_demo = absurd (no_first core.life first)
@@ -256,19 +259,19 @@ module _ (Fits : WorkerState → Type 0) (records credit : WorkerState → ℕ) 
         cond_both (core.life.incarnation == most) (refusal_of life_fault.IncarnationsSpent core.life) _ (λ (out : Outcome Power). out.answer ≡ Ok (power.Counted users) → IsCalm (record core { life = out.life }))
         (λ _ is. absurd (cc)) (λ _ is. absurd (cc)) answer
 
-    boot_at : (found : Found) (answer : Result Power LifeFault) → (life_after_boot core.life).answer ≡ answer → IsDemoFound found → IsCalm (boot_as (life_after_boot core.life).life answer core image found).core
+    boot_at : (found : ImageAnswer) (answer : Result Power LifeFault) → (life_after_boot core.life).answer ≡ answer → IsDemoFound found → IsCalm (boot_as (life_after_boot core.life).life answer core image found).core
     boot_at found (Err why) answer is_demo = is
     boot_at found (Ok (power.Counted users)) answer is_demo = counted (line_of core.life.state).boot users answer
     boot_at found (Ok power.First) answer is_demo = first_at core.life.state found refl answer is_demo
 
-    booted : (found : Found) → IsDemoFound found → IsCalm (boot_of core image found).core
+    booted : (found : ImageAnswer) → IsDemoFound found → IsCalm (boot_of core image found).core
     unfolding boot_of
     booted found is_demo = boot_at found (life_after_boot core.life).answer refl is_demo
 
-    boot_calm : (images : List ImageState) → All (λ (made : ImageState). IsDemoImage made.bytes) images → LeavesCalm steps 0 (started_effect (start_act.Boot image) images (Err fetch_fault.Missing) (record { name = name; core = core }) steps)
+    boot_calm : (images : List ImageState) → All (λ (made : ImageState). IsDemoImage made.bytes) images → LeavesCalm steps 0 (started_effect (start_act.Boot image) images (Err no_image.Missing) (record { name = name; core = core }) steps)
     unfolding started_effect
     boot_calm images all = record {
-      calm = booted (found_image images (Err fetch_fault.Missing) image) (told_found (image_bytes images image) (demo_found images image all));
+      calm = booted (found_image images (Err no_image.Missing) image) (told_found (image_bytes images image) (demo_found images image all));
       ending = refl;
       steps = omega arith;
     }
@@ -277,7 +280,7 @@ module _ (Fits : WorkerState → Type 0) (records credit : WorkerState → ℕ) 
 
   module _ (name : List ℕ) (core : CoreState) (steps : ℕ) (is : IsCalm core) where
     -- a leave that ends nothing but the core's users
-    leave_calm : (last : Event) (left : CoreState) (answer : Result Leave CoreFault) → IsCalm left → (answer ≡ Ok leave.Limit → ⊥) → LeavesCalm steps 1 (leave_effect name last steps (record { core = left; answer = answer }))
+    leave_calm : (last : Event) (left : CoreState) (answer : Result Leave LeaveFault) → IsCalm left → (answer ≡ Ok leave.Limit → ⊥) → LeavesCalm steps 1 (leave_effect name last steps (record { core = left; answer = answer }))
     leave_calm last left (Err why) calm goes = record { calm = calm; ending = refl; steps = omega arith }
     leave_calm last left (Ok (leave.Users users)) calm goes = record { calm = calm; ending = refl; steps = omega arith }
     leave_calm last left (Ok (leave.Last None)) calm goes = record { calm = calm; ending = refl; steps = omega arith }
@@ -289,14 +292,14 @@ module _ (Fits : WorkerState → Type 0) (records credit : WorkerState → ℕ) 
     closes gone None is = absurd (cc)
     closes gone (Some inc) is = absurd (cc)
 
-    leaves_last : (gone : CoreState) (why : Option CoreFault) → (refuse_or core why (close_or true core gone (live_inc core.bench))).answer ≡ Ok leave.Limit → ⊥
+    leaves_last : (gone : CoreState) (why : Option LeaveFault) → (refuse_or core why (close_or true core gone (live_inc core.bench))).answer ≡ Ok leave.Limit → ⊥
     leaves_last gone None is = closes gone (live_inc core.bench) is
     leaves_last gone (Some why) is = absurd (cc)
 
     leaves : (gone : CoreState) (life : CoreLife) (answer : Result Left LifeFault) → (leave_as true core gone life answer).answer ≡ Ok leave.Limit → ⊥
     leaves gone life (Err why) is = absurd (cc)
     leaves gone life (Ok (left.Users users)) is = absurd (cc)
-    leaves gone life (Ok left.Last) is = leaves_last gone (option_map core_fault.CallerOut (option_and_then caller_out core.bench)) is
+    leaves gone life (Ok left.Last) is = leaves_last gone (option_map leave_fault.CallerOut (option_and_then caller_out core.bench)) is
 
     not_limit : (may : Bool) → may ≡ true → (shutdown_of may core).answer ≡ Ok leave.Limit → ⊥
     unfolding shutdown_of
@@ -317,7 +320,7 @@ module _ (Fits : WorkerState → Type 0) (records credit : WorkerState → ℕ) 
 
     closed_calm : (may : Bool) (live : Option ℕ) {gone : CoreState} → IsCalm gone → IsCalm (close_or may core gone live).core
     closed_calm may None {gone} calm = calm
-    closed_calm may (Some inc) {gone} calm = cond_both may _ _ (λ (out : CoreOutcome Leave CoreFault). IsCalm out.core) (λ _. calm) (λ _. is)
+    closed_calm may (Some inc) {gone} calm = cond_both may _ _ (λ (out : CoreOutcome Leave LeaveFault). IsCalm out.core) (λ _. calm) (λ _. is)
 
     -- none are left: the core is offline
     off : (state : LifeState) → (leave_to life_fault.NotPowered (line_of state).shutdown core.life).answer ≡ Ok left.Last → (leave_to life_fault.NotPowered (line_of state).shutdown core.life).life.state ≡ Offline
@@ -334,7 +337,7 @@ module _ (Fits : WorkerState → Type 0) (records credit : WorkerState → ℕ) 
     left_at may (Ok left.Last) answer =
         let there = off core.life.state answer in
         let gone : IsCalm (unloaded_core (life_after_shutdown core.life).life core) = record { regions = is.regions; own = ap is_own there; runs = λ running. absurd (true≢false (sym (ap is_up (sym there ∙ running)))) } in
-        refused IsCalm core (option_map core_fault.CallerOut (option_and_then caller_out core.bench)) _ is (λ _. closed_calm may (live_inc core.bench) gone)
+        refused IsCalm core (option_map leave_fault.CallerOut (option_and_then caller_out core.bench)) _ is (λ _. closed_calm may (live_inc core.bench) gone)
 
     left_calm : (may : Bool) → IsCalm (shutdown_of may core).core
     unfolding shutdown_of
@@ -378,9 +381,9 @@ module _ (Fits : WorkerState → Type 0) (records credit : WorkerState → ℕ) 
   -- a command on what has its name
   module _ (run : RunState) (called : List ℕ) (wanted : NamedAct (List ℕ)) (within : ℕ) (are : AreCalm run.objects)
       (on_link : (named : NamedLink) → ((link_effect named run.steps wanted).ending ≡ None) × ((link_effect named run.steps wanted).steps ≡ run.steps))
-      (on_core : (named : NamedCoreState) → IsCalm named.core → LeavesCalm run.steps within (core_effect run.objects.images (Err fetch_fault.Missing) run.objects.is_quiet named run.steps wanted))
+      (on_core : (named : NamedCoreState) → IsCalm named.core → LeavesCalm run.steps within (core_effect run.objects.images (Err no_image.Missing) run.objects.is_quiet named run.steps wanted))
       (on_none : LeavesRun run.steps within (unnamed_effect run called wanted)) where
-    core_at : (place : ℕ) (found : Option NamedCoreState) → slice_get run.objects.cores place ≡ found → LeavesRun run.steps within (effect_of_core (Err fetch_fault.Missing) run called wanted place found)
+    core_at : (place : ℕ) (found : Option NamedCoreState) → slice_get run.objects.cores place ≡ found → LeavesRun run.steps within (effect_of_core (Err no_image.Missing) run called wanted place found)
     core_at place None none = on_none
     core_at place (Some named) found =
         let left = on_core named (item_at (λ (named : NamedCoreState). IsCalm named.core) run.objects.cores place named found are.cores) in record {
@@ -389,25 +392,25 @@ module _ (Fits : WorkerState → Type 0) (records credit : WorkerState → ℕ) 
           steps = left.steps;
         }
 
-    core_located : (place : Option ℕ) → LeavesRun run.steps within (effect_by_core_place (Err fetch_fault.Missing) run called wanted place)
+    core_located : (place : Option ℕ) → LeavesRun run.steps within (effect_by_core_place (Err no_image.Missing) run called wanted place)
     core_located None = on_none
     core_located (Some place) = core_at place (slice_get run.objects.cores place) refl
 
-    without_link : LeavesRun run.steps within (without_link_effect (Err fetch_fault.Missing) run called wanted)
+    without_link : LeavesRun run.steps within (without_link_effect (Err no_image.Missing) run called wanted)
     unfolding without_link_effect
     without_link = core_located (core_place run.objects.cores called)
 
-    link_at : (place : ℕ) (found : Option NamedLink) → LeavesRun run.steps within (effect_of_link (Err fetch_fault.Missing) run called wanted place found)
+    link_at : (place : ℕ) (found : Option NamedLink) → LeavesRun run.steps within (effect_of_link (Err no_image.Missing) run called wanted place found)
     link_at place None = without_link
     link_at place (Some named) =
         let left = on_link named in record { calm = record { cores = are.cores; images = are.images }; ending = left.0; steps = omega (arith, left.1) }
 
-    located : (place : Option ℕ) → LeavesRun run.steps within (effect_by_link_place (Err fetch_fault.Missing) run called wanted place)
+    located : (place : Option ℕ) → LeavesRun run.steps within (effect_by_link_place (Err no_image.Missing) run called wanted place)
     located None = without_link
     located (Some place) = link_at place (slice_get run.objects.links place)
 
   abbrev Leaves : Command → ℕ → Type 0
-  Leaves wanted within = (run : RunState) → AreCalm run.objects → run.steps + within ≤ STEPS_MOST → LeavesRun run.steps within (effect_of (Err fetch_fault.Missing) run wanted)
+  Leaves wanted within = (run : RunState) → AreCalm run.objects → run.steps + within ≤ STEPS_MOST → LeavesRun run.steps within (effect_of (Err no_image.Missing) run wanted)
 
   quiet_leaves : (set : Switch) → Leaves (command.Quiet set) 0
   unfolding effect_of quiet_effect

@@ -6,12 +6,11 @@ use Rattle.std.specs.Option.{option_and_then, option_map, option_or}
 use Rattle.std.specs.Result.{IfOk}
 use Rattle.std.proofs.lemmas.Bool.{cond_both, eqb-false, true≢false}
 use Rattle.std.proofs.lemmas.List.Elements.{All-cons, All-head, All-nil, All-tail}
+use Rattle.rp_io.specs.Images.{ImageAnswer}
 use Rattle.rp_base.specs.declared.kinds.End.{End}
 use Rattle.rp_base.specs.declared.kinds.End.TheVariants as side
 use Rattle.rp_base.specs.declared.kinds.LifeState.{LifeState}
 use Rattle.rp_base.specs.declared.kinds.LifeState.TheVariants.{Offline, Running, Crashed, Attached, Detached}
-use Rattle.rp_io.specs.declared.faults.FetchFault.{FetchFault}
-use Rattle.rp_io.specs.declared.faults.FetchFault.TheVariants as fetch
 use Rattle.proc_state.specs.declared.answers.Left.{Left}
 use Rattle.proc_state.specs.declared.answers.Left.TheVariants as left
 use Rattle.proc_state.specs.declared.answers.LifeFault.{LifeFault}
@@ -45,9 +44,10 @@ use Rattle.link_bench.specs.BenchHolds.{caller_out, is_out}
 use Rattle.link_bench.specs.Benches.{BenchState, link_in, new_bench_of, with_new_caller}
 use Rattle.core_actors.specs.Actors.{driver_names, fresh_actors}
 use Rattle.crash_recover.specs.declared.core_answers.Crash.{Crash}
-use Rattle.crash_recover.specs.declared.core_faults.CoreFault.{CoreFault}
-use Rattle.crash_recover.specs.declared.core_faults.CoreFault.TheVariants as fault
-use Rattle.crash_recover.specs.CoreBoots.{Found, boot_as, boot_of, config_of, core_bench, core_fault_of_fetch, first_boot, fresh_end, handover_as, handover_of, image_fault, load_in, started_core, with_load}
+use Rattle.crash_recover.specs.declared.core_faults.LeaveFault.TheVariants as leave_fault
+use Rattle.crash_recover.specs.declared.core_faults.StartFault.{StartFault}
+use Rattle.crash_recover.specs.declared.core_faults.StartFault.TheVariants as start_fault
+use Rattle.crash_recover.specs.CoreBoots.{boot_as, boot_of, config_of, core_bench, first_boot, fresh_end, handover_as, handover_of, image_fault, load_in, started_core, with_load}
 use Rattle.crash_recover.specs.CoreCrashes.{crashed_core, first_report, report_as, report_of}
 use Rattle.crash_recover.specs.CoreLeaves.{close_or, detach_of, detached_core, leave_as, live_inc, shutdown_of, unloaded_core}
 use Rattle.crash_recover.specs.CoreRecoveries.{core_to_reopen, fault_with, recovery_fault, recovery_fault_to, recovery_of, reload_fault, reopen_fault, rings_fault, spent_fault}
@@ -59,7 +59,7 @@ use Rattle.crash_recover.proofs.SameLives.{starts_up}
 use Rattle.core_laws.proofs.CrashReclaims.{reached_sound}
 use Rattle.field_laws.specs.Fields.{AreBytes, IsFieldLink, IsFieldWish}
 use Rattle.field_laws.specs.FieldBenches.{IsFieldBench}
-use Rattle.field_laws.specs.FieldCores.{AreFieldCalls, IsFieldCore, IsFieldCoreFault, IsFieldCrash, IsFieldLeave, IsFieldLife, IsFieldLoad, IsFieldPlaced, IsFieldRefused, IsFieldReopen, IsFieldStart, IsImageName}
+use Rattle.field_laws.specs.FieldCores.{AreFieldCalls, IsFieldCore, IsFieldCrash, IsFieldLeave, IsFieldLeaveFault, IsFieldLife, IsFieldLoad, IsFieldPlaced, IsFieldRefused, IsFieldReopen, IsFieldStart, IsFieldStartFault, IsImageName}
 use Rattle.field_laws.proofs.Acts.{IsFieldRefusal, refusal_fields}
 use Rattle.field_laws.proofs.Benches.{caller_fields, crash_fields, new_fields, ready_fields, reopen_fields}
 use Rattle.field_laws.proofs.Lanes.{counts_small}
@@ -257,35 +257,29 @@ link_refusal_fields link sound is =
 
 -- ---- outcomes
 
-abbrev pub IsFieldResult : {A : Type 0} → (A → Type 0) → Result A CoreFault → Type 0
-IsFieldResult P (Ok told) = P told
-IsFieldResult P (Err why) = IsFieldCoreFault why
+abbrev pub IsFieldResult : {A E : Type 0} → (A → Type 0) → (E → Type 0) → Result A E → Type 0
+IsFieldResult P R (Ok told) = P told
+IsFieldResult P R (Err why) = R why
 
 -- what a call leaves of a core, and what it answers
-pub record HoldsOut {A : Type 0} (P : A → Type 0) (out : CoreOutcome A CoreFault) : Type 0 where
+pub record HoldsOut {A E : Type 0} (P : A → Type 0) (R : E → Type 0) (out : CoreOutcome A E) : Type 0 where
   pub core : IsFieldCore out.core
-  pub answer : IsFieldResult P out.answer
+  pub answer : IsFieldResult P R out.answer
 
-refused : {A : Type 0} (P : A → Type 0) (core : CoreState) (why : Option CoreFault) (done : CoreOutcome A CoreFault) → IsFieldCore core → IfSome why IsFieldCoreFault → (why ≡ None → HoldsOut P done)
-    → HoldsOut P (refuse_or core why done)
-refused P core None done is fields rest = rest refl
-refused P core (Some why) done is fields rest = record { core = is; answer = fields }
+refused : {A E : Type 0} (P : A → Type 0) (R : E → Type 0) (core : CoreState) (why : Option E) (done : CoreOutcome A E) → IsFieldCore core → IfSome why R → (why ≡ None → HoldsOut P R done)
+    → HoldsOut P R (refuse_or core why done)
+refused P R core None done is fields rest = rest refl
+refused P R core (Some why) done is fields rest = record { core = is; answer = fields }
 
-load_fault_fields : (found : Option LoadFault) → IfSome found IsFieldRefused → IfSome (option_map fault.Load found) IsFieldCoreFault
+load_fault_fields : (found : Option LoadFault) → IfSome found IsFieldRefused → IfSome (option_map start_fault.Load found) IsFieldStartFault
 load_fault_fields None is = tt
 load_fault_fields (Some why) is = is
 
-fetch_fields : (why : FetchFault) → IsFieldCoreFault (core_fault_of_fetch why)
-fetch_fields fetch.Missing = tt
-fetch_fields fetch.Failed = tt
-fetch_fields (fetch.TooLarge bytes) = tt
-fetch_fields fetch.NoMemory = tt
-
-image_fields : (core : CoreState) (found : Found) → IfOk found AreBytes → IfSome (image_fault core found) IsFieldCoreFault
+image_fields : (core : CoreState) (found : ImageAnswer) → IfOk found AreBytes → IfSome (image_fault core found) IsFieldStartFault
 image_fields core (Ok image) are = load_fault_fields (load_fault image core.regions) (refused_fields image core.regions are)
-image_fields core (Err why) are = fetch_fields why
+image_fields core (Err why) are = tt
 
-life_fault_fields : (found : Option LifeFault) → IfSome (option_map fault.Life found) IsFieldCoreFault
+life_fault_fields : (found : Option LifeFault) → IfSome (option_map start_fault.Life found) IsFieldStartFault
 life_fault_fields None = tt
 life_fault_fields (Some why) = tt
 
@@ -321,20 +315,20 @@ started_fields life core is up small called loaded placed =
       calls = no_calls core _;
     }
 
-first_at : (life : CoreLife) (core : CoreState) (name : List ℕ) (found : Found) → IsFieldLife life → is_up life.state ≡ true → IsImageName name → IfOk found AreBytes → SoundRegions core.regions → IsFieldCore core
-    → HoldsOut IsFieldStart (first_boot life core name found)
+first_at : (life : CoreLife) (core : CoreState) (name : List ℕ) (found : ImageAnswer) → IsFieldLife life → is_up life.state ≡ true → IsImageName name → IfOk found AreBytes → SoundRegions core.regions → IsFieldCore core
+    → HoldsOut IsFieldStart IsFieldStartFault (first_boot life core name found)
 first_at life core name found living up called are sound is =
     let few = living.incarnation in
-    cond_both (is_offline core.life.state) _ _ (HoldsOut IsFieldStart)
-    (λ _. refused IsFieldStart core (image_fault core found) _ is (image_fields core found are)
+    cond_both (is_offline core.life.state) _ _ (HoldsOut IsFieldStart IsFieldStartFault)
+    (λ _. refused IsFieldStart IsFieldStartFault core (image_fault core found) _ is (image_fields core found are)
     (λ clear. record {
       core = started_fields life (with_load core name (load_in core found)) living up is.book called (load_fields core found are) (load_placed core found sound clear);
       answer = omega (arith, few);
     }))
     (λ _. record { core = started_fields life core living up is.book is.image is.loaded is.placed; answer = omega (arith, few) })
 
-boot_at : (life : CoreLife) (answer : Result Power LifeFault) (core : CoreState) (name : List ℕ) (found : Found) → IsFieldLife life → IfOk answer IsFieldPower → (is_offline life.state ≡ true → is_offline core.life.state ≡ true)
-    → (answer ≡ Ok power.First → is_up life.state ≡ true) → IsImageName name → IfOk found AreBytes → SoundRegions core.regions → IsFieldCore core → HoldsOut IsFieldStart (boot_as life answer core name found)
+boot_at : (life : CoreLife) (answer : Result Power LifeFault) (core : CoreState) (name : List ℕ) (found : ImageAnswer) → IsFieldLife life → IfOk answer IsFieldPower → (is_offline life.state ≡ true → is_offline core.life.state ≡ true)
+    → (answer ≡ Ok power.First → is_up life.state ≡ true) → IsImageName name → IfOk found AreBytes → SoundRegions core.regions → IsFieldCore core → HoldsOut IsFieldStart IsFieldStartFault (boot_as life answer core name found)
 boot_at life (Err why) core name found living told off up called are sound is = record { core = is; answer = tt }
 boot_at life (Ok (power.Counted users)) core name found living told off up called are sound is = record {
   core = record { book = is.book; life = living; image = is.image; loaded = is.loaded; placed = is.placed; rest = λ there. is.rest (off there); bench = is.bench; calls = is.calls };
@@ -342,17 +336,17 @@ boot_at life (Ok (power.Counted users)) core name found living told off up calle
 }
 boot_at life (Ok power.First) core name found living told off up called are sound is = first_at life core name found living (up refl) called are sound is
 
-pub boot_fields : (core : CoreState) (name : List ℕ) (found : Found) → IsImageName name → IfOk found AreBytes → SoundRegions core.regions → IsFieldCore core → HoldsOut IsFieldStart (boot_of core name found)
+pub boot_fields : (core : CoreState) (name : List ℕ) (found : ImageAnswer) → IsImageName name → IfOk found AreBytes → SoundRegions core.regions → IsFieldCore core → HoldsOut IsFieldStart IsFieldStartFault (boot_of core name found)
 unfolding boot_of
 boot_fields core name found called are sound is =
     let after = boot_to_life (line_of core.life.state).boot core.life is.life in
     boot_at (life_after_boot core.life).life (life_after_boot core.life).answer core name found after.life after.answer (boot_off core.life.state core.life) (starts_up core.life) called are sound is
 
-handover_at : (life : CoreLife) (answer : Result (Unit {0}) LifeFault) (core : CoreState) (name : List ℕ) (found : Found) → IsFieldLife life
-    → ((done : Unit {0}) → answer ≡ Ok done → is_offline life.state ≡ true → ⊥) → IsImageName name → IfOk found AreBytes → SoundRegions core.regions → IsFieldCore core → HoldsOut IsFieldStart (handover_as life answer core name found)
+handover_at : (life : CoreLife) (answer : Result (Unit {0}) LifeFault) (core : CoreState) (name : List ℕ) (found : ImageAnswer) → IsFieldLife life
+    → ((done : Unit {0}) → answer ≡ Ok done → is_offline life.state ≡ true → ⊥) → IsImageName name → IfOk found AreBytes → SoundRegions core.regions → IsFieldCore core → HoldsOut IsFieldStart IsFieldStartFault (handover_as life answer core name found)
 handover_at life (Err why) core name found living off called are sound is = record { core = is; answer = tt }
 handover_at life (Ok done) core name found living off called are sound is =
-    refused IsFieldStart core (image_fault core found) _ is (image_fields core found are)
+    refused IsFieldStart IsFieldStartFault core (image_fault core found) _ is (image_fields core found are)
     (λ clear. record {
       core = record {
         book = is.book;
@@ -367,7 +361,7 @@ handover_at life (Ok done) core name found living off called are sound is =
       answer = tt;
     })
 
-pub handover_fields : (core : CoreState) (name : List ℕ) (found : Found) → IsImageName name → IfOk found AreBytes → SoundRegions core.regions → IsFieldCore core → HoldsOut IsFieldStart (handover_of core name found)
+pub handover_fields : (core : CoreState) (name : List ℕ) (found : ImageAnswer) → IsImageName name → IfOk found AreBytes → SoundRegions core.regions → IsFieldCore core → HoldsOut IsFieldStart IsFieldStartFault (handover_of core name found)
 unfolding handover_of
 handover_fields core name found called are sound is =
     let after = handover_life (line_of core.life.state).handover core.life is.life in
@@ -388,23 +382,23 @@ reopen_refusal_fields : (bench : BenchState) → IsReachedBench bench → IsFiel
 reopen_refusal_fields bench reached is =
     refused_reopen bench (link_reclaim_refusal (link_in bench) 0) refl (refusal_fields (link_in bench) 0 (reached_sound (link_in bench) reached.link) is.link) (readied bench reached) (ready_fields bench is)
 
-reopen_map : (found : Option ReopenFault) → IfSome found IsFieldReopen → IfSome (option_map fault.Reopen found) IsFieldCoreFault
+reopen_map : (found : Option ReopenFault) → IfSome found IsFieldReopen → IfSome (option_map start_fault.Reopen found) IsFieldStartFault
 reopen_map None is = tt
 reopen_map (Some why) is = is
 
-spent_fields : (is_spent : Bool) → IfSome (spent_fault is_spent) IsFieldCoreFault
+spent_fields : (is_spent : Bool) → IfSome (spent_fault is_spent) IsFieldStartFault
 spent_fields true = tt
 spent_fields false = tt
 
-with_fields : (found : Option BenchState) (is_spent : Bool) → IfSome found IsReachedBench → IfSome found IsFieldBench → IfSome (fault_with found is_spent) IsFieldCoreFault
+with_fields : (found : Option BenchState) (is_spent : Bool) → IfSome found IsReachedBench → IfSome found IsFieldBench → IfSome (fault_with found is_spent) IsFieldStartFault
 with_fields None is_spent reached is = spent_fields is_spent
 with_fields (Some bench) is_spent reached is =
-    or_has IsFieldCoreFault (option_map fault.Reopen (reopen_refusal_of bench)) (spent_fault is_spent) (reopen_map (reopen_refusal_of bench) (reopen_refusal_fields bench reached is)) (spent_fields is_spent)
+    or_has IsFieldStartFault (option_map start_fault.Reopen (reopen_refusal_of bench)) (spent_fault is_spent) (reopen_map (reopen_refusal_of bench) (reopen_refusal_fields bench reached is)) (spent_fields is_spent)
 
-reload_fields : (core : CoreState) (found : Found) → IfOk found AreBytes → IfSome (reload_fault core found) IsFieldCoreFault
+reload_fields : (core : CoreState) (found : ImageAnswer) → IfOk found AreBytes → IfSome (reload_fault core found) IsFieldStartFault
 reload_fields core found are =
-    or_has IsFieldCoreFault (image_fault core found) (rings_fault core (load_in core found)) (image_fields core found are)
-    (cond_both _ None (Some fault.RingsChanged) (λ (why : Option CoreFault). IfSome why IsFieldCoreFault) (λ _. tt) (λ _. tt))
+    or_has IsFieldStartFault (image_fault core found) (rings_fault core (load_in core found)) (image_fields core found are)
+    (cond_both _ None (Some start_fault.RingsChanged) (λ (why : Option StartFault). IfSome why IsFieldStartFault) (λ _. tt) (λ _. tt))
 
 map_fields : (found : Option BenchState) (f : BenchState → BenchState) → ((bench : BenchState) → IsFieldBench bench → IsFieldBench (f bench)) → IfSome found IsFieldBench → IfSome (option_map f found) IsFieldBench
 map_fields None f each is = is
@@ -417,11 +411,11 @@ clear_at : (bench : BenchState) (why : Option ReclaimRefusal) → reopen_refusal
 clear_at bench None clear = clear
 clear_at bench (Some why) clear = absurd (true≢false (ap is_some clear))
 
-first_none : (refusal : Option ReopenFault) (later : Option CoreFault) → option_or (option_map fault.Reopen refusal) later ≡ None → refusal ≡ None
+first_none : (refusal : Option ReopenFault) (later : Option StartFault) → option_or (option_map start_fault.Reopen refusal) later ≡ None → refusal ≡ None
 first_none None later none = refl
 first_none (Some why) later none = absurd (true≢false (ap is_some none))
 
-image_none : (first later : Option CoreFault) → option_or first later ≡ None → first ≡ None
+image_none : (first later : Option StartFault) → option_or first later ≡ None → first ≡ None
 image_none None later none = refl
 image_none (Some why) later none = absurd (true≢false (ap is_some none))
 
@@ -430,15 +424,15 @@ found_reopened None is_spent none is = is
 found_reopened (Some bench) is_spent none is =
     reopen_fields (bench_to_reopen bench) (clear_at bench (link_reclaim_refusal (link_in bench) 0) (first_none (reopen_refusal_of bench) (spent_fault is_spent) none)) (ready_fields bench is)
 
-pub recovery_fields : (core : CoreState) (found : Found) → IfOk found AreBytes → SoundRegions core.regions → IsReachedCore core → IsFieldCore core → HoldsOut IsFieldStart (recovery_of core found)
+pub recovery_fields : (core : CoreState) (found : ImageAnswer) → IfOk found AreBytes → SoundRegions core.regions → IsReachedCore core → IsFieldCore core → HoldsOut IsFieldStart IsFieldStartFault (recovery_of core found)
 unfolding recovery_of
 recovery_fields core found are sound reached is =
     let after = recovery_life (line_of core.life.state).recovery core.life is.life in
     let few = after.life.incarnation in
-    refused IsFieldStart core (option_map fault.Life (recovery_fault core.life)) _ is (life_fault_fields (recovery_fault core.life)) (λ may.
-    refused IsFieldStart core (reload_fault core found) _ is (reload_fields core found are) (λ reloads.
+    refused IsFieldStart IsFieldStartFault core (option_map start_fault.Life (recovery_fault core.life)) _ is (life_fault_fields (recovery_fault core.life)) (λ may.
+    refused IsFieldStart IsFieldStartFault core (reload_fault core found) _ is (reload_fields core found are) (λ reloads.
     let clear = image_none (image_fault core found) (rings_fault core (load_in core found)) reloads in
-    refused IsFieldStart (core_to_reopen core) (reopen_fault core) _ (readied_fields core is) (with_fields core.bench (core.life.incarnation == most) reached.bench is.bench) (λ opens.
+    refused IsFieldStart IsFieldStartFault (core_to_reopen core) (reopen_fault core) _ (readied_fields core is) (with_fields core.bench (core.life.incarnation == most) reached.bench is.bench) (λ opens.
     record {
       core = record {
         book = is.book;
@@ -446,7 +440,7 @@ recovery_fields core found are sound reached is =
         image = is.image;
         loaded = load_fields core found are;
         placed = load_placed core found sound clear;
-        rest = λ off. absurd (recovered_off core.life.state core.life refl (none_mapped fault.Life (recovery_fault core.life) may) off);
+        rest = λ off. absurd (recovered_off core.life.state core.life refl (none_mapped start_fault.Life (recovery_fault core.life) may) off);
         bench = found_reopened core.bench (core.life.incarnation == most) opens is.bench;
         calls = no_calls core _;
       };
@@ -470,7 +464,7 @@ out_at : (found : Option BenchState) → IfSome (option_and_then caller_out foun
 out_at None = tt
 out_at (Some bench) = out_small bench
 
-out_fields : (found : Option ℕ) → IfSome found IsNumber → IfSome (option_map fault.CallerOut found) IsFieldCoreFault
+out_fields : (found : Option ℕ) → IfSome found IsNumber → IfSome (option_map leave_fault.CallerOut found) IsFieldLeaveFault
 out_fields None is = tt
 out_fields (Some caller) is = is
 
@@ -480,22 +474,22 @@ live_small (Some bench) is =
     let inc = is.link.inc in
     cond_both (link_in bench).era.is_live (Some (link_in bench).era.inc) None (λ (found : Option ℕ). IfSome found IsNumber) (λ _. omega (arith, inc)) (λ _. tt)
 
-closed_at : (may_step : Bool) (core gone : CoreState) (live : Option ℕ) → IfSome live IsNumber → IsFieldCore core → IsFieldCore gone → HoldsOut IsFieldLeave (close_or may_step core gone live)
+closed_at : (may_step : Bool) (core gone : CoreState) (live : Option ℕ) → IfSome live IsNumber → IsFieldCore core → IsFieldCore gone → HoldsOut IsFieldLeave IsFieldLeaveFault (close_or may_step core gone live)
 closed_at may_step core gone None small is last = record { core = last; answer = tt }
 closed_at may_step core gone (Some inc) small is last =
-    cond_both may_step _ _ (HoldsOut IsFieldLeave) (λ _. record { core = last; answer = small }) (λ _. record { core = is; answer = tt })
+    cond_both may_step _ _ (HoldsOut IsFieldLeave IsFieldLeaveFault) (λ _. record { core = last; answer = small }) (λ _. record { core = is; answer = tt })
 
 leave_at : (may_step : Bool) (core gone : CoreState) (life : CoreLife) (answer : Result Left LifeFault) → IsFieldLife life → IfOk answer IsFieldLeft
     → ((users : ℕ) → answer ≡ Ok (left.Users users) → is_offline life.state ≡ true → is_offline core.life.state ≡ true) → IsFieldCore core → IsFieldCore gone
-    → HoldsOut IsFieldLeave (leave_as may_step core gone life answer)
+    → HoldsOut IsFieldLeave IsFieldLeaveFault (leave_as may_step core gone life answer)
 leave_at may_step core gone life (Err why) living told off is last = record { core = is; answer = tt }
 leave_at may_step core gone life (Ok (left.Users users)) living told off is last =
     record { core = record { book = is.book; life = living; image = is.image; loaded = is.loaded; placed = is.placed; rest = λ there. is.rest (off users refl there); bench = is.bench; calls = is.calls }; answer = told }
 leave_at may_step core gone life (Ok left.Last) living told off is last =
-    refused IsFieldLeave core (option_map fault.CallerOut (option_and_then caller_out core.bench)) _ is (out_fields (option_and_then caller_out core.bench) (out_at core.bench))
+    refused IsFieldLeave IsFieldLeaveFault core (option_map leave_fault.CallerOut (option_and_then caller_out core.bench)) _ is (out_fields (option_and_then caller_out core.bench) (out_at core.bench))
     (λ _. closed_at may_step core gone (live_inc core.bench) (live_small core.bench is.bench) is last)
 
-pub shutdown_fields : (may_step : Bool) (core : CoreState) → IsFieldCore core → HoldsOut IsFieldLeave (shutdown_of may_step core)
+pub shutdown_fields : (may_step : Bool) (core : CoreState) → IsFieldCore core → HoldsOut IsFieldLeave IsFieldLeaveFault (shutdown_of may_step core)
 unfolding shutdown_of
 shutdown_fields may_step core is =
     let after = leave_to_life life_fault.NotPowered (line_of core.life.state).shutdown core.life is.life in
@@ -503,7 +497,7 @@ shutdown_fields may_step core is =
     (λ users. users_off life_fault.NotPowered (line_of core.life.state).shutdown core.life users) is
     (record { book = is.book; life = after.life; image = tt; loaded = tt; placed = tt; rest = λ _. refl; bench = tt; calls = is.calls })
 
-pub detach_fields : (may_step : Bool) (core : CoreState) → IsFieldCore core → HoldsOut IsFieldLeave (detach_of may_step core)
+pub detach_fields : (may_step : Bool) (core : CoreState) → IsFieldCore core → HoldsOut IsFieldLeave IsFieldLeaveFault (detach_of may_step core)
 unfolding detach_of
 detach_fields may_step core is =
     let after = leave_to_life life_fault.NotAttached (line_of core.life.state).detach core.life is.life in

@@ -4,6 +4,7 @@ use Rattle.std.specs.Prelude.{All, IfSome, option_map}
 use Rattle.std.specs.List.{slice_index_or}
 use Rattle.std.specs.Result.{IfOk, result_ok}
 use Rattle.std.proofs.lemmas.List.Elements.{All-head, All-map, All-nil, All-tail}
+use Rattle.rp_io.specs.Images.{ImageAnswer}
 use Rattle.elf_image.specs.declared.sections.Section.{Section}
 use Rattle.elf_image.specs.Layout.{layout_of}
 use Rattle.elf_image.specs.Headers.{file_header}
@@ -17,7 +18,7 @@ use Rattle.memory_pool.specs.Regions.{memory_len}
 use Rattle.addr_translate.specs.Bytes.{with_bytes}
 use Rattle.fw_load.specs.Memory.{memory_at, segment_bytes, with_at, with_segments, with_table}
 use Rattle.fw_load.specs.Tables.{bytes_in, entries_in, fixes_of, patched_in, table_of, table_section}
-use Rattle.crash_recover.specs.CoreBoots.{Found, load_in, load_of, load_over}
+use Rattle.crash_recover.specs.CoreBoots.{load_in, load_of, load_over}
 use Rattle.crash_recover.specs.Cores.{CoreState}
 use Rattle.field_laws.specs.Fields.{AreBytes}
 use Rattle.field_laws.specs.FieldCores.{IsFieldLoad}
@@ -86,6 +87,6 @@ unfolding load_of
 from_are image regions are = loaded_are image regions (unwrap_or (result_ok (placement regions (entries_in (table_of image)))) []) are
 
 -- what a load gives of an image that was found, or wasn't
-pub load_fields : (core : CoreState) (found : Found) → IfOk found AreBytes → IsFieldLoad (load_in core found)
+pub load_fields : (core : CoreState) (found : ImageAnswer) → IfOk found AreBytes → IsFieldLoad (load_in core found)
 load_fields core (Ok image) are = from_are image core.regions are
 load_fields core (Err why) are = from_are [] core.regions no_bytes

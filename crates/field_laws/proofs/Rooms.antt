@@ -5,6 +5,7 @@ use Rattle.std.specs.Result.{result_ok}
 use Rattle.std.proofs.lemmas.Bool.{cond_both, true≢false}
 use Rattle.std.proofs.lemmas.List.{length-append, length-drop, length-replicate, length-take}
 use Rattle.std.proofs.lemmas.List.Elements.{All-append, All-contains, All-map}
+use Rattle.rp_io.specs.Images.{ImageAnswer}
 use Rattle.elf_image.specs.declared.sections.Section.{Section}
 use Rattle.elf_image.specs.Segments.{SegmentAt, segments_of}
 use Rattle.memory_pool.specs.declared.faults.PlaceFault.{PlaceFault}
@@ -33,8 +34,8 @@ use Rattle.remote_core.specs.Named.{named_bytes, named_place, written_from}
 use Rattle.remote_core.specs.Records.{next_record}
 use Rattle.remote_core.specs.Workers.{WorkerState}
 use Rattle.remote_core.specs.Works.{memory_after, memory_after_next, memory_after_record}
-use Rattle.crash_recover.specs.declared.core_faults.CoreFault.TheVariants as fault
-use Rattle.crash_recover.specs.CoreBoots.{Found, image_fault, load_in, load_of, load_over}
+use Rattle.crash_recover.specs.declared.core_faults.StartFault.TheVariants as start_fault
+use Rattle.crash_recover.specs.CoreBoots.{image_fault, load_in, load_of, load_over}
 use Rattle.crash_recover.specs.Cores.{CoreState}
 use Rattle.crash_recover.proofs.PlacedCounts.{loads_few}
 use Rattle.core_laws.proofs.Outcomes.{none_mapped}
@@ -124,8 +125,8 @@ image_placed image regions sound loads =
     }
 
 -- what is loaded of an image that nothing refuses
-pub load_placed : (core : CoreState) (found : Found) → SoundRegions core.regions → image_fault core found ≡ None → IsFieldPlaced core.regions (load_in core found)
-load_placed core (Ok image) sound none = image_placed image core.regions sound (none_mapped fault.Load (load_fault image core.regions) none)
+pub load_placed : (core : CoreState) (found : ImageAnswer) → SoundRegions core.regions → image_fault core found ≡ None → IsFieldPlaced core.regions (load_in core found)
+load_placed core (Ok image) sound none = image_placed image core.regions sound (none_mapped start_fault.Load (load_fault image core.regions) none)
 load_placed core (Err why) sound none = absurd (true≢false (ap is_some none))
 
 -- ---- what a worker leaves of the memory

@@ -18,8 +18,10 @@ use Rattle.crash_recover.specs.declared.core_answers.Leave.{Leave}
 use Rattle.crash_recover.specs.declared.core_answers.Leave.TheVariants as leave
 use Rattle.crash_recover.specs.declared.core_answers.Start.{Start}
 use Rattle.crash_recover.specs.declared.core_answers.Start.TheVariants as start
-use Rattle.crash_recover.specs.declared.core_faults.CoreFault.{CoreFault}
-use Rattle.crash_recover.specs.declared.core_faults.CoreFault.TheVariants as fault
+use Rattle.crash_recover.specs.declared.core_faults.LeaveFault.{LeaveFault}
+use Rattle.crash_recover.specs.declared.core_faults.LeaveFault.TheVariants as leave_fault
+use Rattle.crash_recover.specs.declared.core_faults.StartFault.{StartFault}
+use Rattle.crash_recover.specs.declared.core_faults.StartFault.TheVariants as start_fault
 use Rattle.crash_recover.specs.Cores.{CoreState, LoadState, blocks_most}
 use Rattle.field_laws.specs.Fields.{AreBytes, IsFieldEnd, IsFieldWish}
 use Rattle.field_laws.specs.FieldBenches.{IsFieldBench}
@@ -78,11 +80,14 @@ abbrev pub IsFieldRefused : LoadFault → Type 0
 IsFieldRefused why = IfSome (load_fault_index why) (λ index. index < 2 ^ 64)
 
 -- what calls of a core answer
-abbrev pub IsFieldCoreFault : CoreFault → Type 0
-IsFieldCoreFault (fault.Load why) = IsFieldRefused why
-IsFieldCoreFault (fault.CallerOut caller) = caller < 2 ^ 64
-IsFieldCoreFault (fault.Reopen why) = IsFieldReopen why
-IsFieldCoreFault other = Unit {0}
+abbrev pub IsFieldStartFault : StartFault → Type 0
+IsFieldStartFault (start_fault.Load why) = IsFieldRefused why
+IsFieldStartFault (start_fault.Reopen why) = IsFieldReopen why
+IsFieldStartFault other = Unit {0}
+
+abbrev pub IsFieldLeaveFault : LeaveFault → Type 0
+IsFieldLeaveFault (leave_fault.Life why) = Unit {0}
+IsFieldLeaveFault (leave_fault.CallerOut caller) = caller < 2 ^ 64
 
 abbrev pub IsFieldStart : Start → Type 0
 IsFieldStart (start.Running inc) = inc < 2 ^ 64

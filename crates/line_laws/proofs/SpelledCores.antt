@@ -6,13 +6,14 @@ use Rattle.std.specs.Option.{option_and_then, option_or}
 use Rattle.std.specs.Result.{IfOk}
 use Rattle.std.proofs.lemmas.Bool.{cond_both, leb-false, true≢false}
 use Rattle.std.proofs.lemmas.List.Elements.{All-append, All-cons, All-map, All-nil, All-head, All-tail, All-take}
+use Rattle.rp_io.specs.Images.{ImageAnswer}
 use Rattle.rp_base.specs.declared.limits.TheConstants.{IMAGE_MOST}
 use Rattle.rp_base.specs.declared.kinds.CrashKind.{CrashKind}
 use Rattle.rp_base.specs.declared.kinds.CrashKind.TheVariants as crash_kind
 use Rattle.rp_base.specs.declared.kinds.DriverKind.{DriverKind}
 use Rattle.rp_base.specs.declared.kinds.Switch.{Switch}
 use Rattle.rp_base.specs.Limits.{ring_capacity}
-use Rattle.rp_io.specs.declared.faults.FetchFault.TheVariants as fetch
+use Rattle.rp_io.specs.declared.faults.NoImage.TheVariants as no_image
 use Rattle.proc_state.specs.declared.answers.LifeFault.{LifeFault}
 use Rattle.proc_state.specs.declared.answers.LifeFault.TheVariants as life
 use Rattle.proc_state.specs.Lives.{is_offline, is_up}
@@ -69,9 +70,11 @@ use Rattle.crash_recover.specs.declared.core_answers.Start.{Start}
 use Rattle.crash_recover.specs.declared.core_answers.Start.TheVariants as start
 use Rattle.crash_recover.specs.declared.core_faults.AddFault.{AddFault}
 use Rattle.crash_recover.specs.declared.core_faults.AddFault.TheVariants as add
-use Rattle.crash_recover.specs.declared.core_faults.CoreFault.{CoreFault}
-use Rattle.crash_recover.specs.declared.core_faults.CoreFault.TheVariants as fault
-use Rattle.crash_recover.specs.declared.core_faults.TheConstants.{CALLER_OUT, RINGS_CHANGED}
+use Rattle.crash_recover.specs.declared.core_faults.LeaveFault.{LeaveFault}
+use Rattle.crash_recover.specs.declared.core_faults.LeaveFault.TheVariants as leave_fault
+use Rattle.crash_recover.specs.declared.core_faults.StartFault.{StartFault}
+use Rattle.crash_recover.specs.declared.core_faults.StartFault.TheVariants as start_fault
+use Rattle.crash_recover.specs.declared.core_faults.TheConstants.{RINGS_CHANGED}
 use Rattle.crash_recover.specs.CoreActs.{act_on_core}
 use Rattle.crash_recover.specs.CoreBoots.{boot_of, handover_of}
 use Rattle.crash_recover.specs.CoreCrashes.{report_of}
@@ -99,17 +102,16 @@ use Rattle.command_run.specs.CoreDrives.{actor_end_events, drive_effect, driven_
 use Rattle.command_run.specs.CoreEffects.{CoreEffect, core_tells}
 use Rattle.crash_recover.specs.CoreCallers.{core_turn_holder}
 use Rattle.command_run.specs.CoreLinks.{core_link_effect, core_ring_events, found_ring_events, found_view_events, link_view_events, shown_ring_events}
-use Rattle.command_run.specs.CoreLives.{booted_image, core_fault_events, crash_effect, crash_events, detach_effect, fault_at, found_image, leave_events, life_fault_event, load_fault_event, may_step, report_events, shutdown_effect, start_event, start_events, started_effect, found_or_told, image_bytes}
+use Rattle.command_run.specs.CoreLives.{booted_image, crash_effect, crash_events, detach_effect, fault_at, found_image, leave_events, leave_fault_event, life_fault_event, load_fault_event, may_step, report_events, shutdown_effect, start_event, start_events, start_fault_events, started_effect, found_or_told, image_bytes}
 use Rattle.command_run.specs.CoreViews.{core_view_events, loaded_table_events, memory_event, shown_memory_event, shown_trace_event, state_event, table_event, table_events, trace_bytes, trace_event}
 use Rattle.command_run.specs.NamedCores.{NamedCoreState}
 use Rattle.command_run.specs.NamedImages.{ImageState}
-use Rattle.command_run.specs.Stores.{Answer}
 use Rattle.run_laws.proofs.CoresReady.{IsSoundCore, may_drive, sound_cores}
 use Rattle.run_laws.proofs.ScriptDrives.{drive_keeps, drive_tells, last_is}
 use Rattle.way_laws.proofs.CoreRungs.{IsRung, IsRungCore}
 use Rattle.field_laws.specs.Fields.{AreBytes, IsFieldEnd}
 use Rattle.field_laws.specs.FieldBenches.{IsFieldAct, IsFieldBench}
-use Rattle.field_laws.specs.FieldCores.{IsFieldCore, IsFieldCoreFault, IsFieldCrash, IsFieldDriven, IsFieldLeave, IsFieldLoad, IsFieldPlaced, IsFieldStart}
+use Rattle.field_laws.specs.FieldCores.{IsFieldCore, IsFieldCrash, IsFieldDriven, IsFieldLeave, IsFieldLeaveFault, IsFieldLoad, IsFieldPlaced, IsFieldStart, IsFieldStartFault}
 use Rattle.field_laws.specs.FieldTables.{IsFieldDevice, IsFieldEntry, IsFieldRing}
 use Rattle.field_laws.proofs.Rooms.{range_in, slice_some}
 use Rattle.field_laws.proofs.Bytes.{range_bytes, text_bytes}
@@ -248,12 +250,12 @@ bytes_found : (found : Option ImageState) → IfSome found (λ (image : ImageSta
 bytes_found None is = tt
 bytes_found (Some image) is = is
 
-or_told : (answer : Answer) (found : Option (List ℕ)) → IfSome found AreBytes → IfOk answer AreBytes → IfOk (found_or_told answer found) AreBytes
+or_told : (answer : ImageAnswer) (found : Option (List ℕ)) → IfSome found AreBytes → IfOk answer AreBytes → IfOk (found_or_told answer found) AreBytes
 or_told answer None are told = told
 or_told answer (Some bytes) are told =
-    cond_both (nat_le (length bytes) IMAGE_MOST) (Ok bytes) (Err (fetch.TooLarge (length bytes))) (λ (found : Answer). IfOk found AreBytes) (λ _. are) (λ _. tt)
+    cond_both (nat_le (length bytes) IMAGE_MOST) (Ok bytes) (Err (no_image.TooLarge (length bytes))) (λ (found : ImageAnswer). IfOk found AreBytes) (λ _. are) (λ _. tt)
 
-found_are : (images : List ImageState) (answer : Answer) (image : List ℕ) → AreBytesImages images → IfOk answer AreBytes → IfOk (found_image images answer image) AreBytes
+found_are : (images : List ImageState) (answer : ImageAnswer) (image : List ℕ) → AreBytesImages images → IfOk answer AreBytes → IfOk (found_image images answer image) AreBytes
 found_are images answer image are told =
     or_told answer (image_bytes images image)
     (bytes_found (find (λ (one : ImageState). bytes_eq one.name image) images) (find_has (λ (one : ImageState). AreBytes one.bytes) (λ (one : ImageState). bytes_eq one.name image) images are)) told
@@ -457,17 +459,17 @@ module _ (name : List ℕ) (named : IsName name) where
   life_told life.NotOffline = ((named, (omega arith, tt)), tt)
   life_told life.NotAttached = ((named, (omega arith, tt)), tt)
 
-  core_told : (image : List ℕ) (why : CoreFault) → IsName image → IsFieldCoreFault why → All IsSpelled (core_fault_events name image why)
-  core_told image (fault.Fetch fetch.Missing) called is = one (event.Missing name image) (((named, (called, tt)), tt))
-  core_told image (fault.Fetch (fetch.TooLarge bytes)) called is = one (event.TooLarge name image) (((named, (called, tt)), tt))
-  core_told image (fault.Fetch fetch.Failed) called is = none
-  core_told image (fault.Fetch fetch.NoMemory) called is = none
-  core_told image (fault.Load why) called is = one (load_fault_event name why) (fault_told (unwrap_or (load_fault_number why) 0) (load_fault_index why) (load_number why) is)
-  core_told image (fault.Life why) called is = one (life_fault_event name why) (life_told why)
-  core_told image fault.RingsChanged called is = one (event.Fault name RINGS_CHANGED) (((named, (omega arith, tt)), tt))
-  core_told image (fault.CallerOut caller) called is = one (event.FaultAt name CALLER_OUT caller) (((named, (omega arith, (is, tt))), tt))
-  core_told image (fault.Reopen why) called is = reopen_told name named why is
-  core_told image fault.NoMemory called is = none
+  refused_told : (image : List ℕ) (why : StartFault) → IsName image → IsFieldStartFault why → All IsSpelled (start_fault_events name image why)
+  refused_told image (start_fault.NoImage no_image.Missing) called is = one (event.Missing name image) (((named, (called, tt)), tt))
+  refused_told image (start_fault.NoImage (no_image.TooLarge bytes)) called is = one (event.TooLarge name image) (((named, (called, tt)), tt))
+  refused_told image (start_fault.Load why) called is = one (load_fault_event name why) (fault_told (unwrap_or (load_fault_number why) 0) (load_fault_index why) (load_number why) is)
+  refused_told image (start_fault.Life why) called is = one (life_fault_event name why) (life_told why)
+  refused_told image start_fault.RingsChanged called is = one (event.Fault name RINGS_CHANGED) (((named, (omega arith, tt)), tt))
+  refused_told image (start_fault.Reopen why) called is = reopen_told name named why is
+
+  stays_told : (why : LeaveFault) → IsFieldLeaveFault why → IsSpelled (leave_fault_event name why)
+  stays_told (leave_fault.Life why) is = life_told why
+  stays_told (leave_fault.CallerOut caller) is = ((named, (omega arith, (is, tt))), tt)
 
   start_told : (began : Start) → IsFieldStart began → IsSpelled (start_event name began)
   start_told (start.Running inc) is = ((named, (is, tt)), tt)
@@ -475,16 +477,16 @@ module _ (name : List ℕ) (named : IsName name) where
   start_told (start.Users users) is = ((named, (is, tt)), tt)
   start_told start.Detached is = ((named, tt), tt)
 
-  starts_told : (image : List ℕ) (came : Result Start CoreFault) → IsName image → IsFieldResult IsFieldStart came → All IsSpelled (start_events name image came)
+  starts_told : (image : List ℕ) (came : Result Start StartFault) → IsName image → IsFieldResult IsFieldStart IsFieldStartFault came → All IsSpelled (start_events name image came)
   starts_told image (Ok began) called is = one (start_event name began) (start_told began is)
-  starts_told image (Err why) called is = core_told image why called is
+  starts_told image (Err why) called is = refused_told image why called is
 
-  leave_told : (last : Event) (came : Result Leave CoreFault) → IsSpelled last → IsFieldResult IsFieldLeave came → All IsSpelled (leave_events name last came)
+  leave_told : (last : Event) (came : Result Leave LeaveFault) → IsSpelled last → IsFieldResult IsFieldLeave IsFieldLeaveFault came → All IsSpelled (leave_events name last came)
   leave_told last (Ok (leave.Users users)) spelled is = one (event.Users name users) (((named, (is, tt)), tt))
   leave_told last (Ok (leave.Last None)) spelled is = one last spelled
   leave_told last (Ok (leave.Last (Some inc))) spelled is = two (event.Closed name inc) last (((named, (is, tt)), tt)) spelled
   leave_told last (Ok leave.Limit) spelled is = none
-  leave_told last (Err why) spelled is = core_told name why named is
+  leave_told last (Err why) spelled is = one (leave_fault_event name why) (stays_told why is)
 
   crash_told : (kind : CrashKind) → IsSpelled (event.Crashed name kind)
   crash_told crash_kind.Mmufault = ((named, tt), tt)
@@ -505,7 +507,7 @@ module _ (name : List ℕ) (named : IsName name) where
   booted_named None has = named
   booted_named (Some image) has = has
 
-  module _ (core : CoreState) (is : IsFieldCore core) (sound : SoundRegions core.regions) (reached : IsReachedCore core) (images : List ImageState) (answer : Answer) (are : AreBytesImages images) (told_are : IfOk answer AreBytes) where
+  module _ (core : CoreState) (is : IsFieldCore core) (sound : SoundRegions core.regions) (reached : IsReachedCore core) (images : List ImageState) (answer : ImageAnswer) (are : AreBytesImages images) (told_are : IfOk answer AreBytes) where
     start_spelled : (start : StartAct) (steps : ℕ) → IsSaidStart start → LeavesSpelled (started_effect start images answer (record { name = name; core = core }) steps)
     unfolding started_effect
     start_spelled (starts.Boot image) steps called =
@@ -583,7 +585,7 @@ module _ (name : List ℕ) (named : IsName name) where
 
 -- ---- what is done under the name of a core
 
-module _ (images : List ImageState) (answer : Answer) (is_quiet : Bool) (on : NamedCoreState) (steps : ℕ) (named : IsName on.name) (are : AreBytesImages images) (told_are : IfOk answer AreBytes)
+module _ (images : List ImageState) (answer : ImageAnswer) (is_quiet : Bool) (on : NamedCoreState) (steps : ℕ) (named : IsName on.name) (are : AreBytesImages images) (told_are : IfOk answer AreBytes)
     (sound : IsSoundCore on.core) (is : IsFieldCore on.core) (rungs : IsRungCore on.core) where
   asked_spelled : (asked : CoreAct) → IsKnownCore asked → LeavesSpelled (core_act_effect images answer is_quiet on steps asked)
   unfolding core_act_effect

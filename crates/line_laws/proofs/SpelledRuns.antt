@@ -4,6 +4,7 @@ use Rattle.std.specs.Prelude.{All, nat_le, nat_lt}
 use Rattle.std.specs.Result.{IfOk}
 use Rattle.std.proofs.lemmas.Bool.{cond_both}
 use Rattle.std.proofs.lemmas.List.Elements.{All-append, All-nil, All-push, All-set, All-weaker}
+use Rattle.rp_io.specs.Images.{ImageAnswer}
 use Rattle.rp_base.specs.declared.limits.TheConstants.{IMAGE_MOST}
 use Rattle.rp_base.specs.declared.kinds.End.TheVariants as side
 use Rattle.rp_base.specs.declared.kinds.Switch.{Switch}
@@ -39,7 +40,7 @@ use Rattle.command_run.specs.NamedCores.{NamedCoreState}
 use Rattle.command_run.specs.NamedImages.{ImageState}
 use Rattle.link_commands.specs.NamedLinks.{NamedLink}
 use Rattle.command_run.specs.Runs.{ObjectsState, Run, RunEffect, RunState, asked_name, effect_by_core_place, core_made_effect, core_named, core_place, dump_answer, dump_effect, dump_effect_of, effect_of, find_core, effect_of_core, effect_of_link, has_image, image_effect, is_full, line_effect, effect_by_link_place, made_effect, making_effect, name_effect, new_end, new_run, place_of, quiet_effect, regions_of, run_from, run_of, run_on, run_tells, run_told, unnamed_effect, with_image, without_link_effect}
-use Rattle.command_run.specs.Stores.{Answer, Shelf, Told, later_told, told_answer}
+use Rattle.command_run.specs.Stores.{Shelf, Told, later_told, told_answer}
 use Rattle.run_laws.proofs.CoreWalks.{FitsNamed}
 use Rattle.run_laws.proofs.CoresReady.{IsSoundCore}
 use Rattle.run_laws.proofs.RunWalks.{item_at}
@@ -154,7 +155,7 @@ fits_named (under.Manage managed) knows = tt
 fits_named (under.Show shown) knows = tt
 fits_named (under.Core asked) knows = tt
 
-module _ (answer : Answer) (told_are : IfOk answer AreBytes) (run : RunState) (name : List ℕ) (wanted : NamedAct (List ℕ)) (named : IsName name) (knows : IsKnownAct wanted) (are : AreFieldObjects run.objects)
+module _ (answer : ImageAnswer) (told_are : IfOk answer AreBytes) (run : RunState) (name : List ℕ) (wanted : NamedAct (List ℕ)) (named : IsName name) (knows : IsKnownAct wanted) (are : AreFieldObjects run.objects)
     (sound : AreSound run.objects) where
   core_at : (place : ℕ) (found : Option NamedCoreState) → slice_get run.objects.cores place ≡ found → RunSpelled (effect_of_core answer run name wanted place found)
   core_at place None none_there = unnamed run are name named wanted knows
@@ -267,21 +268,21 @@ module _ (name image : List ℕ) (named : IsName name) (called : IsName image) w
 
 -- ---- commands
 
-by_line : (answer : Answer) (run : RunState) (wanted : Line (List RecipeLine) (List ℕ)) → IfOk answer AreBytes → IsKnownLine wanted → AreFieldObjects run.objects → AreSound run.objects
+by_line : (answer : ImageAnswer) (run : RunState) (wanted : Line (List RecipeLine) (List ℕ)) → IfOk answer AreBytes → IsKnownLine wanted → AreFieldObjects run.objects → AreSound run.objects
     → RunSpelled (line_effect answer run wanted)
 by_line answer run (line.Image name lines) told_are knows are sound = imaged run name lines knows.0 knows.1 knows.2 are
 by_line answer run (line.Quiet set) told_are knows are sound = quieted run set are
 by_line answer run (line.Dump name image) told_are knows are sound = dump_spelled name image knows.0 knows.1 run are
 by_line answer run (line.On name wanted) told_are knows are sound = by_name answer told_are run name wanted knows.0 knows.1 are sound
 
-effect_spelled : (answer : Answer) (run : RunState) (wanted : Command) → IfOk answer AreBytes → IsKnownLine (line_of wanted) → AreFieldObjects run.objects → AreSound run.objects
+effect_spelled : (answer : ImageAnswer) (run : RunState) (wanted : Command) → IfOk answer AreBytes → IsKnownLine (line_of wanted) → AreFieldObjects run.objects → AreSound run.objects
     → RunSpelled (effect_of answer run wanted)
 unfolding effect_of
 effect_spelled answer run wanted told_are knows are sound = by_line answer run (line_of wanted) told_are knows are sound
 
 -- ---- runs
 
-answer_are : (shelf : Option Shelf) (asked : Option (List ℕ)) → IfSome shelf (λ (shelf : Shelf). (name : List ℕ) → IfOk (shelf name) AreBytes) → IfSome (told_answer shelf asked) (λ (answer : Answer). IfOk answer AreBytes)
+answer_are : (shelf : Option Shelf) (asked : Option (List ℕ)) → IfSome shelf (λ (shelf : Shelf). (name : List ℕ) → IfOk (shelf name) AreBytes) → IfSome (told_answer shelf asked) (λ (answer : ImageAnswer). IfOk answer AreBytes)
 answer_are None None are = tt
 answer_are None (Some name) are = tt
 answer_are (Some shelf) None are = tt
@@ -291,7 +292,7 @@ on_spelled : (effect : RunEffect) (ending : Option Stop) (later : Run) → All I
 on_spelled effect None later first rest = All-append IsSpelled effect.events later.events first rest
 on_spelled effect (Some why) later first rest = first
 
-told_spelled : (run : RunState) (wanted : Command) (answer : Option Answer) (later : RunState → Run) → IfSome answer (λ (answer : Answer). IfOk answer AreBytes) → IsKnownLine (line_of wanted) → IsRunnable wanted
+told_spelled : (run : RunState) (wanted : Command) (answer : Option ImageAnswer) (later : RunState → Run) → IfSome answer (λ (answer : ImageAnswer). IfOk answer AreBytes) → IsKnownLine (line_of wanted) → IsRunnable wanted
     → AreFieldObjects run.objects → AreSound run.objects → ((next : RunState) → AreFieldObjects next.objects → AreSound next.objects → All IsSpelled (later next).events)
     → All IsSpelled (run_told run wanted answer later).events
 told_spelled run wanted None later told_are knows runs are sound rest = none

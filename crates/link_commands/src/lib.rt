@@ -18,5 +18,6 @@ pub use acts::{
 pub use channel_lists::tell_channels;
 pub use links::{NamedBench, tell_books};
 pub use logs::{PIECE, RunLog};
+pub use recoveries::reopen_fault_event;
 pub use rings::tell_bytes;
 pub use stops::Stop;

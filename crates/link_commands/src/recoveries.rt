@@ -1,12 +1,12 @@
-ghost use Rattle.std.specs.Prelude.{◌≡◌, IfOk};
+ghost use Rattle.std.specs.Prelude.{◌≡◌, ◌∷◌, [], IfOk};
 ghost use Rattle.link_commands.specs.Logs.{HasEffect};
-ghost use Rattle.link_commands.specs.Recoveries.{close_effect, reopen_effect};
+ghost use Rattle.link_commands.specs.Recoveries.{close_effect, reopen_effect, reopen_events};
 
 use crate::logs::event;
 use crate::{NamedBench, RunLog, Stop};
 use journal::Event;
 use lane_model::{Already, ReopenFault};
-use rp_base::{Era, NoMemory};
+use rp_base::{Era, Name, NoMemory};
 
 impl NamedBench {
     /// Closes the link, in one step.
@@ -38,14 +38,21 @@ impl NamedBench {
                 name,
                 inc: u64::from(books.inc) + 1,
             },
-            Err(ReopenFault::StillOpen(Era { inc, .. })) => event!(StillOpen, name, [inc]),
-            Err(ReopenFault::StillTurn(caller)) => event!(StillTurn, name, [caller]),
-            Err(ReopenFault::StillHeld(caller, number)) => {
-                event!(StillHeld, name, [caller], number)
-            }
-            Err(ReopenFault::IncarnationsSpent) => Event::IncarnationsSpent { name },
-            Err(ReopenFault::NoMemory) => return Err(NoMemory),
+            Err(fault) => reopen_fault_event(name, fault)?,
         };
         self.tell(&event, log)
+    }
+}
+
+/// Why a link is not opened again. Want of memory isn't the link's refusal, and is answered as it is.
+pub fn reopen_fault_event(name: Name, fault: ReopenFault) -> Result<Event, NoMemory>
+    ensures { IfOk result (λ event. event ∷ [] ≡ reopen_events name fault) }
+{
+    match fault {
+        ReopenFault::StillOpen(Era { inc, .. }) => Ok(event!(StillOpen, name, [inc])),
+        ReopenFault::StillTurn(caller) => Ok(event!(StillTurn, name, [caller])),
+        ReopenFault::StillHeld(caller, number) => Ok(event!(StillHeld, name, [caller], number)),
+        ReopenFault::IncarnationsSpent => Ok(Event::IncarnationsSpent { name }),
+        ReopenFault::NoMemory => Err(NoMemory),
     }
 }

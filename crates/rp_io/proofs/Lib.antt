@@ -1,3 +1,4 @@
 pub mod Ascending
 pub mod Fronts
 pub mod Named
+pub mod TextNames

@@ -1,3 +1,4 @@
+use rp_base::NoMemory;
 use std::alloc::AllocError;
 
 /// The device failed. Its count of faults rose.
@@ -13,6 +14,24 @@ pub enum FetchFault {
     Failed,
     /// The image is longer than [`IMAGE_MOST`](rp_base::IMAGE_MOST): its length in bytes.
     TooLarge(u64),
+    /// Memory ran out.
+    NoMemory,
+}
+
+/// Why a store has no image of a name.
+#[derive(Clone, Copy, Debug, PartialEq)]
+pub enum NoImage {
+    /// There is no image of this name.
+    Missing,
+    /// The image is longer than [`IMAGE_MOST`](rp_base::IMAGE_MOST): its length in bytes.
+    TooLarge(u64),
+}
+
+/// Why a store doesn't tell what it has under a name.
+#[derive(Clone, Copy, Debug, PartialEq)]
+pub enum StoreFault {
+    /// The store failed. Its count of faults rose.
+    Failed,
     /// Memory ran out.
     NoMemory,
 }
@@ -56,5 +75,16 @@ impl From<AllocError> for FetchFault {
 
     fn from(_error: AllocError) -> FetchFault {
         FetchFault::NoMemory
+    }
+}
+
+impl From<NoMemory> for StoreFault {
+    ghost use Rattle.std.specs.Prelude.{◌≡◌};
+    ghost use Rattle.rp_io.specs.declared.faults.StoreFault.TheVariants as fault;
+
+    ghost from_gives = { λ _ e. e ≡ fault.NoMemory };
+
+    fn from(_error: NoMemory) -> StoreFault {
+        StoreFault::NoMemory
     }
 }

@@ -6,6 +6,7 @@ mod calls;
 mod faults;
 mod folder;
 mod images;
+mod look_ups;
 mod memory_sink;
 mod memory_source;
 mod memory_store;
@@ -15,8 +16,9 @@ mod sources;
 mod stores;
 
 pub use adapters::{ReaderSource, StdinSource, StdoutSink, WriterSink};
-pub use faults::{Failed, FetchFault, ReadFault};
+pub use faults::{Failed, FetchFault, NoImage, ReadFault, StoreFault};
 pub use folder::{FIRMWARE_FOLDER, FolderStore};
+pub use look_ups::{bytes_of, look_up, look_up_bytes};
 pub use memory_sink::MemorySink;
 pub use memory_source::MemorySource;
 pub use memory_store::MemoryStore;

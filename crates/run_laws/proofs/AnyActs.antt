@@ -1,5 +1,6 @@
 -- A run keeps of its cores what each of their changes keeps, whatever is asked of links.
 use Rattle.std.proofs.Common.{ℕ, List, [], ◌∷◌, All}
+use Rattle.rp_io.specs.Images.{ImageAnswer}
 use Rattle.script_lang.specs.declared.commands.Command.{Command}
 use Rattle.script_lang.specs.declared.commands.RegionSet.{RegionSet}
 use Rattle.script_lang.specs.declared.recipes.RecipeLine.{RecipeLine}
@@ -13,7 +14,7 @@ use Rattle.link_commands.specs.declared.acts.NamedAct.TheVariants as under
 use Rattle.link_commands.specs.Acts.{line_of}
 use Rattle.command_run.specs.NamedCores.{NamedCoreState}
 use Rattle.command_run.specs.Runs.{ObjectsState, RunState, effect_of, regions_of, run_of}
-use Rattle.command_run.specs.Stores.{Answer, Told}
+use Rattle.command_run.specs.Stores.{Told}
 use Rattle.run_laws.proofs.CoreWalks.{FitsNamed, KeepCores}
 use Rattle.run_laws.proofs.RunWalks.{AreFitting, FitsLine, KeepRuns, effect_keeps, runs_keep}
 
@@ -55,7 +56,7 @@ module _ (C : CoreState → Type 0) (new : (set : RegionSet) (book : ℕ) → C 
   }
 
   -- a command
-  pub effect_keeps_cores : (answer : Answer) (run : RunState) (wanted : Command) → AreCores run.objects → AreCores (effect_of answer run wanted).run.objects
+  pub effect_keeps_cores : (answer : ImageAnswer) (run : RunState) (wanted : Command) → AreCores run.objects → AreCores (effect_of answer run wanted).run.objects
   effect_keeps_cores answer run wanted are =
       (effect_keeps AnyAct AnyBench C all_kept answer run wanted (any_line (line_of wanted)) (record { links = λ place item within. tt; cores = are })).cores
 

@@ -5,6 +5,7 @@ use Rattle.std.specs.Str.{bytes_eq}
 use Rattle.std.proofs.lemmas.List.Quantifiers.{position-Some}
 use Rattle.std.proofs.lemmas.Option.{get_or_from_slice_get}
 use Rattle.std.proofs.lemmas.Slice.Eq.{bytes_eq-Decides}
+use Rattle.rp_io.specs.Images.{ImageAnswer}
 use Rattle.lane_model.specs.declared.recoveries.ReopenFault.{ReopenFault}
 use Rattle.lane_model.specs.Recoveries.{link_reopen_refusal}
 use Rattle.script_lang.specs.declared.commands.Command.TheVariants as command
@@ -23,7 +24,6 @@ use Rattle.link_commands.specs.Recoveries.{opened_effect, reopen_effect}
 use Rattle.command_run.specs.CoreLives.{booted_image, found_image}
 use Rattle.command_run.specs.NamedCores.{NamedCoreState}
 use Rattle.command_run.specs.Runs.{RunEffect, RunState, effect_of, effect_of_link, effect_by_link_place, name_effect, place_of, link_effect_at}
-use Rattle.command_run.specs.Stores.{Answer}
 use Rattle.run_laws.specs.Kept.{AreKept}
 use Rattle.run_laws.specs.Reopenings.{IsLeftByReopen, IsLinkAt, IsReopened}
 use Rattle.run_laws.specs.Starts.{IsCoreAt, core_at}
@@ -47,7 +47,7 @@ reopen_leaves : (on : NamedLink) (steps : ℕ) → IsReopened (link_reopen_refus
 unfolding link_effect reopen_effect
 reopen_leaves on steps = reopened_by on.name on.bench steps (link_reopen_refusal (link_in on.bench))
 
-pub reopens_in_run : (answer : Answer) (run : RunState) (name : List ℕ) (place : ℕ) (on : NamedLink) → IsLinkAt run name place on
+pub reopens_in_run : (answer : ImageAnswer) (run : RunState) (name : List ℕ) (place : ℕ) (on : NamedLink) → IsLinkAt run name place on
     → IsSomeAnd (slice_get (effect_of answer run (command.Reopen name)).run.objects.links place) (IsLeftByReopen name on.bench)
 unfolding effect_of name_effect
 reopens_in_run answer run name place on at =
@@ -61,7 +61,7 @@ reopens_in_run answer run name place on at =
 
 -- ---- cores
 
-module _ (answer : Answer) (run : RunState) (name : List ℕ) (place : ℕ) (on : NamedCoreState) (at : IsCoreAt run name place on) where
+module _ (answer : ImageAnswer) (run : RunState) (name : List ℕ) (place : ℕ) (on : NamedCoreState) (at : IsCoreAt run name place on) where
   pub boot_begins_in_run : (image : List ℕ) (did : Start) → begins_life did ≡ true → (boot_of on.core image (found_image run.objects.images answer image)).answer ≡ Ok did
       → IsSomeAnd (core_at (effect_of answer run (command.Boot name image)).run place) (BeginsLife (on.core.life.incarnation + 1))
   boot_begins_in_run image did begins is =

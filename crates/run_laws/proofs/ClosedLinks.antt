@@ -3,6 +3,7 @@ use Rattle.std.proofs.Common.{◌≡◌, ◌≢◌, inl, inr, ℕ, zero, suc, �
 use Rattle.std.specs.Option.{IsSomeAnd, option_map}
 use Rattle.std.proofs.lemmas.Bool.{cond_both}
 use Rattle.std.proofs.lemmas.Bool.Decides.{eqb_tells}
+use Rattle.rp_io.specs.Images.{ImageAnswer}
 use Rattle.rp_base.specs.declared.kinds.Switch.{Switch}
 use Rattle.rp_base.specs.declared.limits.TheConstants.{STEPS_MOST}
 use Rattle.lane_model.specs.declared.calls.LinkConfig.{LinkConfig}
@@ -41,7 +42,6 @@ use Rattle.command_run.specs.NamedCores.{NamedCoreState}
 use Rattle.link_commands.specs.NamedLinks.{NamedLink}
 use Rattle.link_commands.specs.Recoveries.{close_effect, close_event}
 use Rattle.command_run.specs.Runs.{RunEffect, RunState, effect_by_core_place, core_made_effect, core_place, dump_answer, dump_effect, dump_effect_of, effect_of, effect_of_core, effect_of_link, has_image, image_effect, is_full, line_effect, effect_by_link_place, made_effect, making_effect, name_effect, place_of, quiet_effect, run_tells, unnamed_effect, with_image, without_link_effect}
-use Rattle.command_run.specs.Stores.{Answer}
 use Rattle.run_laws.specs.ClosedLinks.{LeavesClosed, ReopensOther, bench_at}
 use Rattle.run_laws.proofs.CoreWalks.{FitsNamed}
 use Rattle.run_laws.proofs.RunWalks.{FitsLine}
@@ -98,15 +98,15 @@ module _ (run : RunState) (place : ℕ) (on : NamedLink) (found : slice_get run.
   unnamed name (under.Show shown) = unchanged
   unnamed name (under.Core asked) = unchanged
 
-  core_at : (answer : Answer) (name : List ℕ) (wanted : NamedAct (List ℕ)) (at : ℕ) (core : Option NamedCoreState) → Closed (effect_of_core answer run name wanted at core)
+  core_at : (answer : ImageAnswer) (name : List ℕ) (wanted : NamedAct (List ℕ)) (at : ℕ) (core : Option NamedCoreState) → Closed (effect_of_core answer run name wanted at core)
   core_at answer name wanted at None = unnamed name wanted
   core_at answer name wanted at (Some core) = unchanged
 
-  core_located : (answer : Answer) (name : List ℕ) (wanted : NamedAct (List ℕ)) (at : Option ℕ) → Closed (effect_by_core_place answer run name wanted at)
+  core_located : (answer : ImageAnswer) (name : List ℕ) (wanted : NamedAct (List ℕ)) (at : Option ℕ) → Closed (effect_by_core_place answer run name wanted at)
   core_located answer name wanted None = unnamed name wanted
   core_located answer name wanted (Some at) = core_at answer name wanted at (slice_get run.objects.cores at)
 
-  without_link : (answer : Answer) (name : List ℕ) (wanted : NamedAct (List ℕ)) → Closed (without_link_effect answer run name wanted)
+  without_link : (answer : ImageAnswer) (name : List ℕ) (wanted : NamedAct (List ℕ)) → Closed (without_link_effect answer run name wanted)
   unfolding without_link_effect
   without_link answer name wanted = core_located answer name wanted (core_place run.objects.cores name)
 
@@ -131,7 +131,7 @@ module _ (run : RunState) (place : ℕ) (on : NamedLink) (found : slice_get run.
 
   -- ---- what is done under a name
 
-  link_at : (answer : Answer) (name : List ℕ) (wanted : NamedAct (List ℕ)) (at : ℕ) (link : Option NamedLink) → slice_get run.objects.links at ≡ link → FitsNamed IsFitAct wanted
+  link_at : (answer : ImageAnswer) (name : List ℕ) (wanted : NamedAct (List ℕ)) (at : ℕ) (link : Option NamedLink) → slice_get run.objects.links at ≡ link → FitsNamed IsFitAct wanted
       → (at ≡ place → wanted ≢ under.Manage manager.Reopen) → Closed (effect_of_link answer run name wanted at link)
   link_at answer name wanted at None none fits other = without_link answer name wanted
   link_at answer name wanted at (Some link) there fits other = elim (eqb_tells place at) [
@@ -144,12 +144,12 @@ module _ (run : RunState) (place : ℕ) (on : NamedLink) (found : slice_get run.
         (get-set_other run.objects.links at place _ differ.1 ∙ found) stays
   ]
 
-  located : (answer : Answer) (name : List ℕ) (wanted : NamedAct (List ℕ)) (at : Option ℕ) → FitsNamed IsFitAct wanted → (at ≡ Some place → wanted ≢ under.Manage manager.Reopen)
+  located : (answer : ImageAnswer) (name : List ℕ) (wanted : NamedAct (List ℕ)) (at : Option ℕ) → FitsNamed IsFitAct wanted → (at ≡ Some place → wanted ≢ under.Manage manager.Reopen)
       → Closed (effect_by_link_place answer run name wanted at)
   located answer name wanted None fits other = without_link answer name wanted
   located answer name wanted (Some at) fits other = link_at answer name wanted at (slice_get run.objects.links at) refl fits (λ same. other (ap Some same))
 
-  by_name : (answer : Answer) (name : List ℕ) (wanted : NamedAct (List ℕ)) → FitsNamed IsFitAct wanted → (place_of run.objects.links name ≡ Some place → wanted ≢ under.Manage manager.Reopen)
+  by_name : (answer : ImageAnswer) (name : List ℕ) (wanted : NamedAct (List ℕ)) → FitsNamed IsFitAct wanted → (place_of run.objects.links name ≡ Some place → wanted ≢ under.Manage manager.Reopen)
       → Closed (name_effect answer run name wanted)
   unfolding name_effect
   by_name answer name wanted fits other = located answer name wanted (place_of run.objects.links name) fits other
@@ -174,13 +174,13 @@ module _ (run : RunState) (place : ℕ) (on : NamedLink) (found : slice_get run.
   unfolding dump_effect
   dump_closed name image = dumped image (dump_answer run.objects name image)
 
-  by_line : (answer : Answer) (wanted : Line (List RecipeLine) (List ℕ)) → FitsLine IsFitAct wanted
+  by_line : (answer : ImageAnswer) (wanted : Line (List RecipeLine) (List ℕ)) → FitsLine IsFitAct wanted
       → ((name : List ℕ) → wanted ≡ line.On name (under.Manage manager.Reopen) → place_of run.objects.links name ≢ Some place) → Closed (line_effect answer run wanted)
   by_line answer (line.Image name lines) fits other = imaged name lines
   by_line answer (line.Quiet set) fits other = quieted set
   by_line answer (line.Dump name image) fits other = dump_closed name image
   by_line answer (line.On name wanted) fits other = by_name answer name wanted fits (λ here same. other name (ap (line.On name) same) here)
 
-  pub stays_closed : (answer : Answer) (asked : Command) → IsRunnable asked → ReopensOther run place asked → LeavesClosed on.bench (effect_of answer run asked).run place
+  pub stays_closed : (answer : ImageAnswer) (asked : Command) → IsRunnable asked → ReopensOther run place asked → LeavesClosed on.bench (effect_of answer run asked).run place
   unfolding effect_of
   stays_closed answer asked runs other = by_line answer (line_of asked) (line_fits asked runs) other

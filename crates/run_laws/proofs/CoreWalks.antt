@@ -1,5 +1,6 @@
 -- What is done under the name of a core keeps what each change of a core keeps.
 use Rattle.std.proofs.Common.{◌≡◌, inl, ℕ, Bool, true, List, [], ◌∷◌, ◌++◌, Option, Some, None, refl}
+use Rattle.rp_io.specs.Images.{ImageAnswer}
 use Rattle.rp_base.specs.declared.kinds.CrashKind.{CrashKind}
 use Rattle.rp_base.specs.declared.kinds.DriverKind.{DriverKind}
 use Rattle.rp_base.specs.declared.kinds.Switch.{Switch}
@@ -24,7 +25,6 @@ use Rattle.command_run.specs.CoreLinks.{core_link_effect}
 use Rattle.command_run.specs.CoreLives.{booted_image, crash_effect, detach_effect, found_image, may_step, shutdown_effect, started_effect}
 use Rattle.command_run.specs.NamedCores.{NamedCoreState}
 use Rattle.command_run.specs.NamedImages.{ImageState}
-use Rattle.command_run.specs.Stores.{Answer}
 use Rattle.run_laws.proofs.ScriptDrives.{drive_keeps}
 
 -- each change of a core keeps this of it, an act of which this may be known too
@@ -92,7 +92,7 @@ module _ (Fits : LinkAct (List ℕ) → Type 0) (C : CoreState → Type 0) (keep
     unfolding crash_effect
     crash_kept kind = report_stays C keep.lives (may_step steps) core is
 
-  start_kept : (start : StartAct) (images : List ImageState) (answer : Answer) (on : NamedCoreState) (steps : ℕ) → C on.core → LeavesCore (started_effect start images answer on steps)
+  start_kept : (start : StartAct) (images : List ImageState) (answer : ImageAnswer) (on : NamedCoreState) (steps : ℕ) → C on.core → LeavesCore (started_effect start images answer on steps)
   unfolding started_effect
   start_kept (starts.Boot image) images answer on steps is = boot_stays C keep.lives on.core image (found_image images answer image) is
   start_kept (starts.Handover image) images answer on steps is = handover_stays C keep.lives on.core image (found_image images answer image) is
@@ -100,7 +100,7 @@ module _ (Fits : LinkAct (List ℕ) → Type 0) (C : CoreState → Type 0) (keep
 
   -- ---- what is done under the name of a core
 
-  core_act_kept : (images : List ImageState) (answer : Answer) (is_quiet : Bool) (on : NamedCoreState) (steps : ℕ) (asked : CoreAct) → C on.core
+  core_act_kept : (images : List ImageState) (answer : ImageAnswer) (is_quiet : Bool) (on : NamedCoreState) (steps : ℕ) (asked : CoreAct) → C on.core
       → LeavesCore (core_act_effect images answer is_quiet on steps asked)
   unfolding core_act_effect
   core_act_kept images answer is_quiet on steps (act.Region region) is = region_kept on.name on.core steps is region
@@ -113,7 +113,7 @@ module _ (Fits : LinkAct (List ℕ) → Type 0) (C : CoreState → Type 0) (keep
   core_act_kept images answer is_quiet on steps (act.Recovery set) is = switch_kept on.name on.core steps is set
   core_act_kept images answer is_quiet on steps (act.Drive count) is = drive_keeps on.name is_quiet C keep.drive on.core steps count is
 
-  pub core_kept : (images : List ImageState) (answer : Answer) (is_quiet : Bool) (on : NamedCoreState) (steps : ℕ) (wanted : NamedAct (List ℕ)) → FitsNamed Fits wanted → C on.core
+  pub core_kept : (images : List ImageState) (answer : ImageAnswer) (is_quiet : Bool) (on : NamedCoreState) (steps : ℕ) (wanted : NamedAct (List ℕ)) → FitsNamed Fits wanted → C on.core
       → C (core_effect images answer is_quiet on steps wanted).core
   unfolding core_effect
   core_kept images answer is_quiet on steps (under.Make made) fits is = is

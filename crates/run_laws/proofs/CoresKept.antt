@@ -1,11 +1,12 @@
 -- A run keeps what its cores keep of their links.
 use Rattle.std.proofs.Common.{List}
+use Rattle.rp_io.specs.Images.{ImageAnswer}
 use Rattle.script_lang.specs.declared.commands.Command.{Command}
 use Rattle.crash_recover.specs.Cores.{IsKeptCore}
 use Rattle.core_laws.proofs.CoreActs.{core_act_kept}
 use Rattle.core_laws.proofs.KeptCores.{core_driven, kept_stays}
 use Rattle.command_run.specs.Runs.{RunState, effect_of, run_of}
-use Rattle.command_run.specs.Stores.{Answer, Told}
+use Rattle.command_run.specs.Stores.{Told}
 use Rattle.run_laws.specs.Kept.{AreKept}
 use Rattle.run_laws.proofs.AnyActs.{AnyAct, effect_keeps_cores, runs_keep_cores}
 use Rattle.run_laws.proofs.CoreWalks.{KeepCores}
@@ -20,7 +21,7 @@ cores_kept = record {
 }
 
 -- a command
-pub effect_kept : (answer : Answer) (run : RunState) (wanted : Command) → AreKept run.objects → AreKept (effect_of answer run wanted).run.objects
+pub effect_kept : (answer : ImageAnswer) (run : RunState) (wanted : Command) → AreKept run.objects → AreKept (effect_of answer run wanted).run.objects
 effect_kept = effect_keeps_cores IsKeptCore (λ set book. tt) cores_kept
 
 -- a run

@@ -2,6 +2,7 @@
 use Rattle.std.proofs.Common.{◌≡◌, ◌≢◌, ℕ, ◌==◌, Bool, false, cond, List, Option, Some, None, IfSome, refl, sym, ap, subst, ◌∙◌}
 use Rattle.std.specs.Option.{IsSomeAnd}
 use Rattle.std.proofs.lemmas.Bool.{cond_both}
+use Rattle.rp_io.specs.Images.{ImageAnswer}
 use Rattle.rp_base.specs.declared.kinds.LifeState.{LifeState}
 use Rattle.rp_base.specs.declared.kinds.LifeState.TheVariants.{Crashed}
 use Rattle.rp_base.specs.declared.kinds.DriverKind.{DriverKind}
@@ -16,7 +17,7 @@ use Rattle.link_bench.specs.declared.acts.LinkAct.{LinkAct}
 use Rattle.link_bench.specs.Benches.{BenchState, link_in}
 use Rattle.crash_recover.specs.declared.core_faults.AddFault.{AddFault}
 use Rattle.crash_recover.specs.Cores.{CoreState}
-use Rattle.crash_recover.specs.CoreBoots.{Found, boot_as, boot_of, handover_as, handover_of}
+use Rattle.crash_recover.specs.CoreBoots.{boot_as, boot_of, handover_as, handover_of}
 use Rattle.crash_recover.specs.CoreCrashes.{report_as, report_of}
 use Rattle.crash_recover.specs.CoreLeaves.{detach_of, detached_core, leave_as, shutdown_of, unloaded_core}
 use Rattle.core_actors.specs.ActorEnds.{actors_after_end}
@@ -40,7 +41,6 @@ use Rattle.command_run.specs.CoreLives.{crash_effect, detach_effect, found_image
 use Rattle.command_run.specs.NamedCores.{NamedCoreState}
 use Rattle.command_run.specs.NamedImages.{ImageState}
 use Rattle.command_run.specs.Runs.{RunEffect, RunState, effect_by_core_place, effect_of_core, effect_by_link_place, name_effect, place_of, core_effect_at, without_link_effect}
-use Rattle.command_run.specs.Stores.{Answer}
 use Rattle.run_laws.specs.CrashedCores.{LinkStaysClosed, StaysCrashed}
 use Rattle.run_laws.specs.Starts.{IsCoreAt, core_at}
 use Rattle.run_laws.proofs.StartsInRuns.{core_behind}
@@ -63,18 +63,18 @@ module _ (core : CoreState) (crashed : core.life.state ≡ Crashed) (reached : I
 
   -- ---- lives
 
-  counted : (name : List ℕ) (found : Found) → StaysCrashed core (boot_as (with_user core.life).life (with_user core.life).answer core name found).core
+  counted : (name : List ℕ) (found : ImageAnswer) → StaysCrashed core (boot_as (with_user core.life).life (with_user core.life).answer core name found).core
   counted name found =
       cond_both (core.life.users == most) (refusal_of life_fault.UsersFull core.life) _
       (λ (outcome : Outcome Power). StaysCrashed core (boot_as outcome.life outcome.answer core name found).core) (λ _. unchanged) (λ _. stays _ crashed refl)
 
-  booted : (name : List ℕ) (found : Found) → StaysCrashed core (boot_of core name found).core
+  booted : (name : List ℕ) (found : ImageAnswer) → StaysCrashed core (boot_of core name found).core
   unfolding boot_of
   booted name found =
       subst (λ (state : LifeState). StaysCrashed core (boot_as (boot_to (line_of state).boot core.life).life (boot_to (line_of state).boot core.life).answer core name found).core)
       (sym crashed) (counted name found)
 
-  handed_over : (name : List ℕ) (found : Found) → StaysCrashed core (handover_of core name found).core
+  handed_over : (name : List ℕ) (found : ImageAnswer) → StaysCrashed core (handover_of core name found).core
   unfolding handover_of
   handed_over name found =
       subst (λ (state : LifeState). StaysCrashed core (handover_as (handover_to (line_of state).handover core.life).life (handover_to (line_of state).handover core.life).answer core name found).core)
@@ -130,7 +130,7 @@ module _ (core : CoreState) (crashed : core.life.state ≡ Crashed) (reached : I
 
 -- ---- what is done under the name
 
-module _ (images : List ImageState) (answer : Answer) (is_quiet : Bool) (on : NamedCoreState) (steps : ℕ) (crashed : on.core.life.state ≡ Crashed) (reached : IsReachedCore on.core) (shut : IfSome on.core.bench Shut) where
+module _ (images : List ImageState) (answer : ImageAnswer) (is_quiet : Bool) (on : NamedCoreState) (steps : ℕ) (crashed : on.core.life.state ≡ Crashed) (reached : IsReachedCore on.core) (shut : IfSome on.core.bench Shut) where
   on_core : (asked : CoreAct) → asked ≢ act.Start starts.Recover → StaysCrashed on.core (core_act_effect images answer is_quiet on steps asked).core
   unfolding core_act_effect region_effect driver_effect started_effect shutdown_effect detach_effect crash_effect
   on_core (act.Region region) other = region_added on.core crashed reached shut on.name steps region (add_fault on.core region)
@@ -154,7 +154,7 @@ module _ (images : List ImageState) (answer : Answer) (is_quiet : Bool) (on : Na
   under_name (under.Core asked) fits other = on_core asked (λ same. other (ap under.Core same))
 
 -- what is done under the name of a crashed core of a run
-pub stays_crashed : (answer : Answer) (run : RunState) (name : List ℕ) (place : ℕ) (on : NamedCoreState) (wanted : NamedAct (List ℕ)) → IsCoreAt run name place on → IsFitNamed wanted
+pub stays_crashed : (answer : ImageAnswer) (run : RunState) (name : List ℕ) (place : ℕ) (on : NamedCoreState) (wanted : NamedAct (List ℕ)) → IsCoreAt run name place on → IsFitNamed wanted
     → IsReachedCore on.core → on.core.life.state ≡ Crashed → IfSome on.core.bench (λ (bench : BenchState). (link_in bench).era.is_live ≡ false) → wanted ≢ under.Core (act.Start starts.Recover)
     → IsSomeAnd (core_at (name_effect answer run name wanted).run place) (StaysCrashed on.core)
 unfolding name_effect without_link_effect

@@ -3,6 +3,7 @@ use Rattle.std.proofs.Common.{◌≡◌, ℕ, true, List, [], ◌∷◌, ◌++�
 use Rattle.std.proofs.lemmas.Bool.{cond_both}
 use Rattle.std.proofs.lemmas.List.Elements.{All-nil}
 use Rattle.std.specs.Option.{option_map}
+use Rattle.rp_io.specs.Images.{ImageAnswer}
 use Rattle.rp_base.specs.declared.kinds.RegionKind.TheVariants.{Tcm, Pool}
 use Rattle.memory_pool.specs.declared.regions.Region.{Region}
 use Rattle.memory_pool.specs.Regions.{region_fault, standard_regions}
@@ -22,7 +23,7 @@ use Rattle.script_lang.specs.declared.commands.Command.{Command}
 use Rattle.script_lang.specs.declared.commands.RegionSet.{RegionSet}
 use Rattle.script_lang.specs.declared.commands.RegionSet.TheVariants as set
 use Rattle.command_run.specs.Runs.{RunState, effect_of, regions_of, run_of}
-use Rattle.command_run.specs.Stores.{Answer, Told}
+use Rattle.command_run.specs.Stores.{Told}
 use Rattle.run_laws.specs.Kept.{HaveSoundRegions}
 use Rattle.run_laws.proofs.AnyActs.{AnyAct, effect_keeps_cores, runs_keep_cores}
 use Rattle.run_laws.proofs.CoreWalks.{KeepCores}
@@ -102,7 +103,7 @@ cores_sound = record {
 }
 
 -- a command
-pub effect_sound : (answer : Answer) (run : RunState) (wanted : Command) → HaveSoundRegions run.objects → HaveSoundRegions (effect_of answer run wanted).run.objects
+pub effect_sound : (answer : ImageAnswer) (run : RunState) (wanted : Command) → HaveSoundRegions run.objects → HaveSoundRegions (effect_of answer run wanted).run.objects
 effect_sound = effect_keeps_cores HasSoundRegions (λ regions book. first_sound regions) cores_sound
 
 -- a run

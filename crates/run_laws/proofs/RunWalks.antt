@@ -3,6 +3,7 @@ use Rattle.std.proofs.Common.{◌≡◌, ℕ, Bool, false, List, [], ◌∷◌, 
 use Rattle.std.proofs.lemmas.Bool.{cond_both}
 use Rattle.std.proofs.lemmas.List.Elements.{All-nil, All-push, All-set}
 use Rattle.std.proofs.lemmas.Option.{get_or_from_slice_get, slice_get_within}
+use Rattle.rp_io.specs.Images.{ImageAnswer}
 use Rattle.rp_base.specs.declared.kinds.Switch.{Switch}
 use Rattle.lane_model.specs.declared.calls.LinkConfig.{LinkConfig}
 use Rattle.script_lang.specs.declared.commands.Command.{Command}
@@ -26,7 +27,7 @@ use Rattle.link_commands.specs.LinkCommands.{link_effect}
 use Rattle.command_run.specs.NamedCores.{NamedCoreState}
 use Rattle.link_commands.specs.NamedLinks.{NamedLink}
 use Rattle.command_run.specs.Runs.{ObjectsState, Run, RunEffect, RunState, asked_name, effect_by_core_place, core_made_effect, core_place, dump_answer, dump_effect, dump_effect_of, effect_of, effect_of_core, effect_of_link, has_image, image_effect, is_full, line_effect, effect_by_link_place, made_effect, making_effect, name_effect, new_end, new_run, place_of, quiet_effect, regions_of, run_from, run_of, run_on, run_tells, run_told, unnamed_effect, with_image, without_link_effect}
-use Rattle.command_run.specs.Stores.{Answer, Told, later_told, told_answer}
+use Rattle.command_run.specs.Stores.{Told, later_told, told_answer}
 use Rattle.run_laws.proofs.CoreWalks.{FitsNamed, KeepCores, core_kept}
 
 -- an item at a place
@@ -90,7 +91,7 @@ module _ (Fits : LinkAct (List ℕ) → Type 0) (L : BenchState → Type 0) (C :
 
   -- ---- what is done under a name
 
-  module _ (answer : Answer) (run : RunState) (name : List ℕ) (wanted : NamedAct (List ℕ)) (fits : FitsNamed Fits wanted) (are : AreAll L C run.objects) where
+  module _ (answer : ImageAnswer) (run : RunState) (name : List ℕ) (wanted : NamedAct (List ℕ)) (fits : FitsNamed Fits wanted) (are : AreAll L C run.objects) where
     core_at : (place : ℕ) (found : Option NamedCoreState) → slice_get run.objects.cores place ≡ found → LeavesRun (effect_of_core answer run name wanted place found)
     core_at place None none = unnamed run are name wanted
     core_at place (Some on) found = record {
@@ -145,14 +146,14 @@ module _ (Fits : LinkAct (List ℕ) → Type 0) (L : BenchState → Type 0) (C :
   unfolding dump_effect
   dump_kept run name image are = dumped run image (dump_answer run.objects name image) are
 
-  by_line : (answer : Answer) (run : RunState) (wanted : Line (List RecipeLine) (List ℕ)) → FitsLine Fits wanted → AreAll L C run.objects → LeavesRun (line_effect answer run wanted)
+  by_line : (answer : ImageAnswer) (run : RunState) (wanted : Line (List RecipeLine) (List ℕ)) → FitsLine Fits wanted → AreAll L C run.objects → LeavesRun (line_effect answer run wanted)
   by_line answer run (line.Image name lines) fits are = imaged run name lines are
   by_line answer run (line.Quiet set) fits are = quieted run set are
   by_line answer run (line.Dump name image) fits are = dump_kept run name image are
   by_line answer run (line.On name wanted) fits are = by_name answer run name wanted fits are
 
   -- a command
-  pub effect_keeps : (answer : Answer) (run : RunState) (wanted : Command) → FitsLine Fits (line_of wanted) → AreAll L C run.objects
+  pub effect_keeps : (answer : ImageAnswer) (run : RunState) (wanted : Command) → FitsLine Fits (line_of wanted) → AreAll L C run.objects
       → AreAll L C (effect_of answer run wanted).run.objects
   unfolding effect_of
   effect_keeps answer run wanted fits are = by_line answer run (line_of wanted) fits are
@@ -163,7 +164,7 @@ module _ (Fits : LinkAct (List ℕ) → Type 0) (L : BenchState → Type 0) (C :
   on_kept effect None later left rest = rest
   on_kept effect (Some why) later left rest = left
 
-  told_kept : (run : RunState) (wanted : Command) (answer : Option Answer) (later : RunState → Run) → FitsLine Fits (line_of wanted) → AreAll L C run.objects
+  told_kept : (run : RunState) (wanted : Command) (answer : Option ImageAnswer) (later : RunState → Run) → FitsLine Fits (line_of wanted) → AreAll L C run.objects
       → ((next : RunState) → AreAll L C next.objects → AreAll L C (later next).last.objects) → AreAll L C (run_told run wanted answer later).last.objects
   told_kept run wanted None later fits are rest = are
   told_kept run wanted (Some answer) later fits are rest =

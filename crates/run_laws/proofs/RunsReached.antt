@@ -3,6 +3,7 @@ use Rattle.std.proofs.Common.{◌≡◌, ℕ, ◌+◌, ◌==◌, Bool, false, Li
 use Rattle.std.specs.Prelude.{Contains}
 use Rattle.std.proofs.lemmas.Bool.{cond_both}
 use Rattle.std.proofs.lemmas.List.Elements.{All-contains, All-nil}
+use Rattle.rp_io.specs.Images.{ImageAnswer}
 use Rattle.rp_base.specs.declared.limits.TheConstants.{STEPS_MOST}
 use Rattle.lane_model.specs.declared.calls.LinkConfig.{LinkConfig}
 use Rattle.lane_model.specs.declared.recoveries.ReopenFault.{ReopenFault}
@@ -34,7 +35,7 @@ use Rattle.command_run.specs.NamedCores.{NamedCoreState}
 use Rattle.link_commands.specs.NamedLinks.{NamedLink}
 use Rattle.link_commands.specs.Recoveries.{close_effect, close_event, opened_effect, reopen_effect}
 use Rattle.command_run.specs.Runs.{ObjectsState, RunState, effect_of, new_end, new_run, regions_of, run_of}
-use Rattle.command_run.specs.Stores.{Answer, Told}
+use Rattle.command_run.specs.Stores.{Told}
 use Rattle.run_laws.specs.Kept.{AreKept, AreReady}
 use Rattle.run_laws.specs.Reached.{AreReached, HandsInOrder}
 use Rattle.run_laws.proofs.CoreWalks.{FitsNamed}
@@ -143,7 +144,7 @@ pub none_sound : AreSound new_run.objects
 none_sound = record { links = All-nil (λ (named : NamedLink). IsReachedBench named.bench); cores = All-nil (λ (named : NamedCoreState). IsSoundCore named.core) }
 
 -- a command
-pub command_sound : (answer : Answer) (run : RunState) (wanted : Command) → IsRunnable wanted → AreSound run.objects → AreSound (effect_of answer run wanted).run.objects
+pub command_sound : (answer : ImageAnswer) (run : RunState) (wanted : Command) → IsRunnable wanted → AreSound run.objects → AreSound (effect_of answer run wanted).run.objects
 command_sound answer run wanted runs are = effect_keeps IsFitAct IsReachedBench IsSoundCore all_sound answer run wanted (line_fits wanted runs) are
 
 -- a run
@@ -157,7 +158,7 @@ are_reached objects are = record { links = are.links; cores = λ place item with
 are_ready : (objects : ObjectsState) → AreSound objects → AreReady objects
 are_ready objects are = λ place item within. (are.cores place item within).ready
 
-module _ (answer : Answer) (run : RunState) (wanted : Command) (runs : IsRunnable wanted) (reached : AreReached run.objects) (kept : AreKept run.objects) (ready : AreReady run.objects) where
+module _ (answer : ImageAnswer) (run : RunState) (wanted : Command) (runs : IsRunnable wanted) (reached : AreReached run.objects) (kept : AreKept run.objects) (ready : AreReady run.objects) where
   left : AreSound (effect_of answer run wanted).run.objects
   left =
       command_sound answer run wanted runs

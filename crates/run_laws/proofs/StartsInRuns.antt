@@ -1,6 +1,7 @@
 -- Boots and handovers of a core of a run.
 use Rattle.std.proofs.Common.{◌≡◌, ◌≢◌, ◌↔◌, ℕ, zero, suc, List, [], ◌∷◌, Option, Some, refl, sym, ap, ◌∙◌, slice_get, slice_set}
 use Rattle.std.specs.Option.{option_map}
+use Rattle.rp_io.specs.Images.{ImageAnswer}
 use Rattle.rp_base.specs.declared.kinds.LifeState.{LifeState}
 use Rattle.rp_base.specs.declared.kinds.LifeState.TheVariants.{Offline, Running, Attached, Detached}
 use Rattle.proc_state.specs.Lives.{most}
@@ -14,7 +15,6 @@ use Rattle.command_run.specs.CoreCommands.{core_act_effect, core_effect}
 use Rattle.command_run.specs.CoreEffects.{CoreEffect}
 use Rattle.command_run.specs.CoreLives.{booted_image, crash_effect, detach_effect, found_image, may_step, shutdown_effect, started_effect}
 use Rattle.command_run.specs.Runs.{RunEffect, RunState, effect_by_core_place, effect_of, effect_of_core, effect_by_link_place, name_effect, core_effect_at, without_link_effect}
-use Rattle.command_run.specs.Stores.{Answer}
 use Rattle.rp_base.specs.declared.kinds.CrashKind.{CrashKind}
 use Rattle.crash_recover.specs.CoreBoots.{boot_of, handover_of}
 use Rattle.crash_recover.specs.CoreCrashes.{report_of}
@@ -31,7 +31,7 @@ set_there (x ∷ xs) zero item found is = refl
 set_there (x ∷ xs) (suc i) item found is = set_there xs i item found is
 
 -- a core's act, by what it leaves of the core
-act_at : (answer : Answer) (run : RunState) (name : List ℕ) (place : ℕ) (on : NamedCoreState) (act : CoreAct) → IsCoreAt run name place on
+act_at : (answer : ImageAnswer) (run : RunState) (name : List ℕ) (place : ℕ) (on : NamedCoreState) (act : CoreAct) → IsCoreAt run name place on
     → name_effect answer run name (under.Core act)
     ≡ core_effect_at run place on (core_act_effect run.objects.images answer run.objects.is_quiet on run.steps act)
 unfolding name_effect without_link_effect core_effect
@@ -53,7 +53,7 @@ some_is x y is = cc
 comes_to : {P : Type 0} (now : Option LifeState) (state to : LifeState) → now ≡ Some state → (state ≡ to) ↔ P → (now ≡ Some to) ↔ P
 comes_to now state to is both = (λ there. both.0 (some_is state to (sym is ∙ there)), λ p. is ∙ ap Some (both.1 p))
 
-pub boots_in_run : (answer : Answer) (run : RunState) (name image : List ℕ) (place : ℕ) (on : NamedCoreState) → IsCoreAt run name place on → on.core.life.state ≡ Offline
+pub boots_in_run : (answer : ImageAnswer) (run : RunState) (name image : List ℕ) (place : ℕ) (on : NamedCoreState) → IsCoreAt run name place on → on.core.life.state ≡ Offline
     → on.core.life.incarnation ≢ most
     → (state_at (effect_of answer run (command.Boot name image)).run place ≡ Some Running) ↔ FindsLoadable on.core (found_image run.objects.images answer image)
 unfolding effect_of core_act_effect started_effect
@@ -63,7 +63,7 @@ boots_in_run answer run name image place on at offline few =
     ∙ state_behind run name place on (core_act_effect run.objects.images answer run.objects.is_quiet on run.steps (core.Start (starts.Boot image))) at)
     (boots_where on.core image (found_image run.objects.images answer image) offline few)
 
-pub attaches_in_run : (answer : Answer) (run : RunState) (name image : List ℕ) (place : ℕ) (on : NamedCoreState) → IsCoreAt run name place on → on.core.life.state ≡ Detached
+pub attaches_in_run : (answer : ImageAnswer) (run : RunState) (name image : List ℕ) (place : ℕ) (on : NamedCoreState) → IsCoreAt run name place on → on.core.life.state ≡ Detached
     → (state_at (effect_of answer run (command.Boot name image)).run place ≡ Some Attached) ↔ (on.core.life.incarnation ≢ most)
 unfolding effect_of core_act_effect started_effect
 attaches_in_run answer run name image place on at detached =
@@ -72,7 +72,7 @@ attaches_in_run answer run name image place on at detached =
     ∙ state_behind run name place on (core_act_effect run.objects.images answer run.objects.is_quiet on run.steps (core.Start (starts.Boot image))) at)
     (attaches_where on.core image (found_image run.objects.images answer image) detached)
 
-pub hands_over_in_run : (answer : Answer) (run : RunState) (name image : List ℕ) (place : ℕ) (on : NamedCoreState) → IsCoreAt run name place on → on.core.life.state ≡ Offline
+pub hands_over_in_run : (answer : ImageAnswer) (run : RunState) (name image : List ℕ) (place : ℕ) (on : NamedCoreState) → IsCoreAt run name place on → on.core.life.state ≡ Offline
     → (state_at (effect_of answer run (command.Handover name image)).run place ≡ Some Detached) ↔ FindsLoadable on.core (found_image run.objects.images answer image)
 unfolding effect_of core_act_effect started_effect
 hands_over_in_run answer run name image place on at offline =
@@ -89,14 +89,14 @@ core_behind run name place on effect at =
     ap (option_map (λ (on : NamedCoreState). on.core)) (set_there run.objects.cores place (record on { core = effect.core }) on at.found)
 
 -- the core that an act leaves
-pub core_left : (answer : Answer) (run : RunState) (name : List ℕ) (place : ℕ) (on : NamedCoreState) (act : CoreAct) → IsCoreAt run name place on
+pub core_left : (answer : ImageAnswer) (run : RunState) (name : List ℕ) (place : ℕ) (on : NamedCoreState) (act : CoreAct) → IsCoreAt run name place on
     → core_at (name_effect answer run name (under.Core act)).run place
     ≡ Some (core_act_effect run.objects.images answer run.objects.is_quiet on run.steps act).core
 core_left answer run name place on act at =
     ap (λ (effect : RunEffect). core_at effect.run place) (act_at answer run name place on act at)
     ∙ core_behind run name place on (core_act_effect run.objects.images answer run.objects.is_quiet on run.steps act) at
 
-module _ (answer : Answer) (run : RunState) (name : List ℕ) (place : ℕ) (on : NamedCoreState) (at : IsCoreAt run name place on) where
+module _ (answer : ImageAnswer) (run : RunState) (name : List ℕ) (place : ℕ) (on : NamedCoreState) (at : IsCoreAt run name place on) where
   pub boot_leaves : (image : List ℕ) → core_at (effect_of answer run (command.Boot name image)).run place ≡ Some (boot_of on.core image (found_image run.objects.images answer image)).core
   unfolding effect_of core_act_effect started_effect
   boot_leaves image = core_left answer run name place on (core.Start (starts.Boot image)) at

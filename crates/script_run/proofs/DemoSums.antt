@@ -4,7 +4,7 @@ use Rattle.std.proofs.lemmas.Bool.{cond_both, true≢false}
 use Rattle.std.specs.Result.{result_unwrap_or}
 use Rattle.rp_base.specs.declared.kinds.DriverKind.TheVariants as driver
 use Rattle.rp_base.specs.declared.limits.TheConstants.{BOOK_MOST, SCRIPT_LINES_MOST}
-use Rattle.rp_io.specs.declared.faults.FetchFault.TheVariants as fetch_fault
+use Rattle.rp_io.specs.declared.faults.NoImage.TheVariants as no_image
 use Rattle.rp_io.specs.Images.{fetch_answer}
 use Rattle.script_lang.specs.declared.commands.Command.{Command}
 use Rattle.script_lang.specs.declared.commands.Command.TheVariants as command
@@ -28,11 +28,11 @@ use Rattle.command_run.proofs.RunSteps.{run_first, run_none}
 use Rattle.command_run.proofs.Shelves.{held_run}
 
 -- an empty store has no image
-none_held : (asked : Option (List ℕ)) → answer_for (fetch_answer []) asked ≡ Err fetch_fault.Missing
+none_held : (asked : Option (List ℕ)) → answer_for (fetch_answer []) asked ≡ Err no_image.Missing
 none_held None = refl
 none_held (Some name) = refl
 
-pub bare_is : (state : RunState) (command : Command) → effect_of (Err fetch_fault.Missing) state command ≡ bare_effect state command
+pub bare_is : (state : RunState) (command : Command) → effect_of (Err no_image.Missing) state command ≡ bare_effect state command
 bare_is state command = ap (λ answer. effect_of answer state command) (sym (none_held (asked_name state.objects command)))
 
 -- a run that stops with its first command, and one that goes on
@@ -121,7 +121,7 @@ module _ (commands : List Command) (state : RunState) (accepted : Accepted) wher
 -- the same by what the command left in code
 module _ (commands : List Command) (objects after_objects : ObjectsState) (before after : LogState) (accepted : Accepted) (left : List Command) (first : Command) (more : List Command) (answer : Option Stop)
     (is : left ≡ first ∷ more) (so_far : CountsSoFar commands (record { objects = objects; steps = before.steps }) accepted left)
-    (did : HasRunEffect (effect_of (Err fetch_fault.Missing) (record { objects = objects; steps = before.steps }) first) after_objects before after answer) where
+    (did : HasRunEffect (effect_of (Err no_image.Missing) (record { objects = objects; steps = before.steps }) first) after_objects before after answer) where
   first_did : HasRunEffect (bare_effect (record { objects = objects; steps = before.steps }) first) after_objects before after answer
   first_did = subst (λ effect. HasRunEffect effect after_objects before after answer) (bare_is (record { objects = objects; steps = before.steps }) first) did
 

@@ -13,7 +13,7 @@ use Rattle.journal_check.proofs.Found.{audit_found}
 use Rattle.std.specs.declared.alloc.Global.{Global}
 use Rattle.rp_io.specs.declared.faults.ReadFault.{ReadFault}
 use Rattle.rp_io.specs.declared.faults.ReadFault.TheVariants as read_fault
-use Rattle.rp_io.specs.declared.faults.FetchFault.TheVariants as fetch_fault
+use Rattle.rp_io.specs.declared.faults.NoImage.TheVariants as no_image
 use Rattle.rp_io.specs.Causes.{Rose}
 use Rattle.rp_io.specs.Contents.{AppendsFront, IsFrontOf}
 use Rattle.word_kinds.specs.declared.causes.Cause.TheVariants as cause
@@ -114,7 +114,7 @@ some_run None images =
 some_run (Some bytes) images = some_script images bytes
 
 some_report : (images : Option (List (List ℕ × List ℕ))) (name : List ℕ) → (output : Output) × IsReportOutput images name output
-some_report None name = (report_output (report_of_fetch name (Err fetch_fault.Missing)), (Err fetch_fault.Missing, tt, refl))
+some_report None name = (report_output (report_of_fetch name (Err no_image.Missing)), (Err no_image.Missing, refl))
 some_report (Some images) name = (report_output (check_report images name), refl)
 
 -- and of an audit
@@ -440,7 +440,7 @@ loads_well true = refl
 loads_well false = refl
 
 report_well : (images : Option (List (List ℕ × List ℕ))) (name : List ℕ) (output : Output) → IsReportOutput images name output → is_store_fault output.status ≡ false
-report_well None name output is = ap (λ (o : Output). is_store_fault o.status) is.2 ∙ loads_well (report_of_fetch name is.0).loads
+report_well None name output is = ap (λ (o : Output). is_store_fault o.status) is.1 ∙ loads_well (report_of_fetch name is.0).loads
 report_well (Some images) name output is = ap (λ (o : Output). is_store_fault o.status) is ∙ loads_well (check_report images name).loads
 
 -- nor a demo, which runs over an empty store

@@ -13,7 +13,7 @@ use Rattle.script_run.specs.declared.statuses.Status.{Status}
 use Rattle.link_commands.specs.declared.stops.Stop.{Stop}
 use Rattle.command_run.specs.declared.faults.OutputFault.{OutputFault}
 use Rattle.command_run.specs.declared.faults.OutputFault.TheVariants as output_fault
-use Rattle.rp_io.specs.declared.faults.FetchFault.TheVariants as fetch_fault
+use Rattle.rp_io.specs.declared.faults.NoImage.TheVariants as no_image
 use Rattle.command_run.specs.Stores.{IsHeld, IsShelf, Shelf, Told, answer_for}
 use Rattle.command_run.specs.Runs.{ObjectsState, RunEffect, RunState, Run, asked_name, effect_of, line_effect, run_from, run_of, new_run}
 use Rattle.script_run.specs.Outputs.{Output, end_output, stop_output, store_fault_output, transcript_output}
@@ -310,8 +310,8 @@ module _ (images : Option (List (List ℕ × List ℕ))) (commands : List Comman
         (λ later rest. run_rest (effect_over found.shelf state_at first) ending (run_from later (record { objects = after_objects; steps = after.steps }) rest))) stops so_far_run
 
   -- what the command at a place tells, as if it were kept
-  any_shelf : (shelf : Shelf) × IsShelf images shelf × (Err fetch_fault.Missing ≡ answer_for shelf None)
-  any_shelf = shelf_of images None (Err fetch_fault.Missing) refl
+  any_shelf : (shelf : Shelf) × IsShelf images shelf × (Err no_image.Missing ≡ answer_for shelf None)
+  any_shelf = shelf_of images None (Err no_image.Missing) refl
 
   abbrev told_at : RunEffect
   told_at = effect_over any_shelf.0 state_at first
@@ -358,11 +358,11 @@ module _ (images : Option (List (List ℕ × List ℕ))) (commands : List Comman
 
     -- a drive of so many steps at its place
     abbrev drive_here : ℕ → RunEffect
-    drive_here steps = effect_of (Err fetch_fault.Missing) state_at (command.Drive cut.name steps)
+    drive_here steps = effect_of (Err no_image.Missing) state_at (command.Drive cut.name steps)
 
     -- the same of its line
     abbrev line_here : ℕ → RunEffect
-    line_here steps = line_effect (Err fetch_fault.Missing) state_at (drive_line cut.name steps)
+    line_here steps = line_effect (Err no_image.Missing) state_at (drive_line cut.name steps)
 
     drive_is : (steps : ℕ) → drive_here steps ≡ line_here steps
     unfolding effect_of

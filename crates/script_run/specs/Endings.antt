@@ -1,7 +1,7 @@
 -- How the program ends, by its words and by what its devices did (own).
 use Rattle.std.specs.Prelude.{◌≡◌, ◌⊎◌, ◌<◌, ◌≤◌, ◌+◌, ℕ, Bool, true, false, List, length, Option, Some, None, Result, Ok, Err}
 use Rattle.std.specs.Io.KnownBytes.{Appends}
-use Rattle.rp_io.specs.declared.faults.FetchFault.{FetchFault}
+use Rattle.rp_io.specs.Images.{ImageAnswer}
 use Rattle.rp_io.specs.declared.sinks.Sink as sinks
 use Rattle.rp_io.specs.declared.sources.Source as sources
 use Rattle.rp_io.specs.declared.stores.FirmwareStore as stores
@@ -17,7 +17,7 @@ use Rattle.script_run.specs.declared.statuses.Status.TheVariants as status
 use Rattle.script_lang.specs.declared.commands.Command.{Command}
 use Rattle.script_lang.specs.Grammar.{Refusal, script_of}
 use Rattle.command_run.specs.Runs.{AsksNone, new_run}
-use Rattle.command_run.specs.Stores.{IsAnswer, IsHeld, IsTold, Told, store_of}
+use Rattle.command_run.specs.Stores.{IsHeld, IsTold, Told, store_of}
 use Rattle.storm_run.specs.declared.plans.Plan.{Plan}
 use Rattle.script_run.specs.Outputs.{Form, other, run, check, demo, storm, audit, Output, usage_output, run_output, script_output, fails_in, report_output, storm_output, audit_output, too_long_output, read_fault_output, store_fault_output}
 use Rattle.script_run.specs.Reports.{report_of_fetch, check_report}
@@ -94,7 +94,7 @@ IsRunOutput left images output = OfSource left (λ bytes. IsScriptOutput images 
 -- the report of an image; of a store that doesn't tell, that of some answer
 abbrev pub IsReportOutput : Option (List (List ℕ × List ℕ)) → List ℕ → Output → Type 0
 IsReportOutput None name output =
-    (answer : Result (List ℕ) FetchFault) × IsAnswer answer × (output ≡ report_output (report_of_fetch name answer))
+    (answer : ImageAnswer) × (output ≡ report_output (report_of_fetch name answer))
 IsReportOutput (Some images) name output = output ≡ report_output (check_report images name)
 
 -- the output of an audit of a transcript, which is refused where it is too long

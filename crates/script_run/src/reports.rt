@@ -1,16 +1,15 @@
 ghost use Rattle.std.specs.Prelude.{◌≡◌, ℕ, List, Option, IfOk, IfErr};
+ghost use Rattle.rp_io.specs.Images.{IsStoreFault};
 ghost use Rattle.script_run.specs.Outputs.{check as check_form};
 ghost use Rattle.script_run.specs.Endings.{Ends, IsFinal, IsReportOutput, devices, source_with};
-ghost use Rattle.command_run.specs.Fetches.{IsFetchFault};
 ghost use Rattle.script_run.specs.ImageReports.{made_output};
 
 use crate::endings::{end_with, end_with_text};
 use crate::statuses::Status;
-use command_run::StoreFault;
 use image_report::{ImageReport, refuse, report_image};
 use journal::Notice;
 use rp_base::{Name, NoMemory};
-use rp_io::{FetchFault, FirmwareStore, Sink};
+use rp_io::{FirmwareStore, NoImage, Sink, StoreFault, look_up};
 use std::alloc::Global;
 
 /// Fetches the image of a name, and writes whether it loads.
@@ -45,14 +44,12 @@ fn fetch_report<F: FirmwareStore>(
     requires { name ≡ word.now }
     ensures report { IfOk result (λ report. IsReportOutput (F.images store.old) name (made_output report)) }
     ensures same { IfOk result (λ _. F.faults store.new ≡ F.faults store.old) }
-    ensures fault { IfErr result (λ why. IsFetchFault why (F.faults store.old) (F.faults store.new)) }
+    ensures fault { IfErr result (λ why. IsStoreFault why (F.faults store.old) (F.faults store.new)) }
 {
-    match store.fetch(alloc, word) {
+    match look_up(alloc, store, word)? {
         Ok(image) => Ok(report_image(alloc, &image)?),
-        Err(FetchFault::Missing) => Ok(refuse(alloc, Notice::Missing(name))?),
-        Err(FetchFault::TooLarge(_)) => Ok(refuse(alloc, Notice::TooLarge(name))?),
-        Err(FetchFault::Failed) => Err(StoreFault::Failed),
-        Err(FetchFault::NoMemory) => Err(StoreFault::NoMemory),
+        Err(NoImage::Missing) => Ok(refuse(alloc, Notice::Missing(name))?),
+        Err(NoImage::TooLarge(_)) => Ok(refuse(alloc, Notice::TooLarge(name))?),
     }
 }
 

@@ -1,9 +1,10 @@
 -- What is done on a core, but for acts on its link and drives, tells no line of a take.
 use Rattle.std.proofs.Common.{◌≡◌, ℕ, Bool, false, List, Option, Some, None, Result, Ok, Err, unwrap_or, refl}
 use Rattle.std.proofs.lemmas.Bool.{true≢false}
+use Rattle.rp_io.specs.Images.{ImageAnswer}
 use Rattle.rp_base.specs.declared.kinds.CrashKind.{CrashKind}
 use Rattle.rp_base.specs.declared.kinds.DriverKind.{DriverKind}
-use Rattle.rp_io.specs.declared.faults.FetchFault.TheVariants as fetch
+use Rattle.rp_io.specs.declared.faults.NoImage.TheVariants as no_image
 use Rattle.fw_load.specs.Faults.{load_fault_index, load_fault_number}
 use Rattle.proc_state.specs.declared.answers.LifeFault.{LifeFault}
 use Rattle.proc_state.specs.declared.answers.LifeFault.TheVariants as life
@@ -19,8 +20,10 @@ use Rattle.crash_recover.specs.declared.core_answers.Start.{Start}
 use Rattle.crash_recover.specs.declared.core_answers.Start.TheVariants as start
 use Rattle.crash_recover.specs.declared.core_faults.AddFault.{AddFault}
 use Rattle.crash_recover.specs.declared.core_faults.AddFault.TheVariants as add
-use Rattle.crash_recover.specs.declared.core_faults.CoreFault.{CoreFault}
-use Rattle.crash_recover.specs.declared.core_faults.CoreFault.TheVariants as fault
+use Rattle.crash_recover.specs.declared.core_faults.LeaveFault.{LeaveFault}
+use Rattle.crash_recover.specs.declared.core_faults.LeaveFault.TheVariants as leave_fault
+use Rattle.crash_recover.specs.declared.core_faults.StartFault.{StartFault}
+use Rattle.crash_recover.specs.declared.core_faults.StartFault.TheVariants as start_fault
 use Rattle.crash_recover.specs.CoreCallers.{core_turn_holder}
 use Rattle.crash_recover.specs.CoreCrashes.{report_of}
 use Rattle.crash_recover.specs.CoreLeaves.{detach_of, shutdown_of}
@@ -36,11 +39,10 @@ use Rattle.link_commands.specs.declared.acts.NamedAct.{NamedAct}
 use Rattle.link_commands.specs.declared.acts.NamedAct.TheVariants as under
 use Rattle.command_run.specs.CoreCommands.{add_fault_events, added_effect, core_act_effect, core_effect, driver_effect, driver_effect_unless, region_effect}
 use Rattle.command_run.specs.CoreLinks.{core_ring_events, found_ring_events, found_view_events, link_view_events, shown_ring_events}
-use Rattle.command_run.specs.CoreLives.{core_fault_events, crash_effect, crash_events, detach_effect, fault_at, found_image, leave_events, life_fault_event, may_step, report_events, shutdown_effect, start_events, start_name, start_with, started_effect}
+use Rattle.command_run.specs.CoreLives.{crash_effect, crash_events, detach_effect, fault_at, found_image, leave_events, leave_fault_event, life_fault_event, may_step, report_events, shutdown_effect, start_events, start_fault_events, start_name, start_with, started_effect}
 use Rattle.command_run.specs.CoreViews.{core_view_events, loaded_table_events, memory_event, shown_memory_event, shown_trace_event, table_event, table_events, trace_bytes, trace_event}
 use Rattle.command_run.specs.NamedCores.{NamedCoreState}
 use Rattle.command_run.specs.NamedImages.{ImageState}
-use Rattle.command_run.specs.Stores.{Answer}
 use Rattle.way_laws.specs.CommandTakes.{may_take}
 use Rattle.way_laws.specs.WordedTakes.{is_take_line}
 use Rattle.way_laws.proofs.LinkLines.{HaveNoTakes, each_none, reopen_none, ring_none, view_none}
@@ -56,17 +58,17 @@ module _ (name : List ℕ) where
   life_none life.IncarnationsSpent = refl
   life_none why = refl
 
-  core_fault_none : (image : List ℕ) (why : CoreFault) → HaveNoTakes (core_fault_events name image why)
-  core_fault_none image (fault.Fetch fetch.Missing) = (refl, tt)
-  core_fault_none image (fault.Fetch (fetch.TooLarge bytes)) = (refl, tt)
-  core_fault_none image (fault.Fetch fetch.Failed) = tt
-  core_fault_none image (fault.Fetch fetch.NoMemory) = tt
-  core_fault_none image (fault.Load why) = (fault_none (unwrap_or (load_fault_number why) 0) (load_fault_index why), tt)
-  core_fault_none image (fault.Life why) = (life_none why, tt)
-  core_fault_none image fault.RingsChanged = (refl, tt)
-  core_fault_none image (fault.CallerOut caller) = (refl, tt)
-  core_fault_none image (fault.Reopen why) = reopen_none name why
-  core_fault_none image fault.NoMemory = tt
+  start_fault_none : (image : List ℕ) (why : StartFault) → HaveNoTakes (start_fault_events name image why)
+  start_fault_none image (start_fault.NoImage no_image.Missing) = (refl, tt)
+  start_fault_none image (start_fault.NoImage (no_image.TooLarge bytes)) = (refl, tt)
+  start_fault_none image (start_fault.Load why) = (fault_none (unwrap_or (load_fault_number why) 0) (load_fault_index why), tt)
+  start_fault_none image (start_fault.Life why) = (life_none why, tt)
+  start_fault_none image start_fault.RingsChanged = (refl, tt)
+  start_fault_none image (start_fault.Reopen why) = reopen_none name why
+
+  leave_fault_none : (why : LeaveFault) → is_take_line (leave_fault_event name why) ≡ false
+  leave_fault_none (leave_fault.Life why) = life_none why
+  leave_fault_none (leave_fault.CallerOut caller) = refl
 
   -- ---- regions and drivers
 
@@ -96,19 +98,19 @@ module _ (name : List ℕ) where
 
   -- ---- starts, leaves and crashes
 
-  start_none : (image : List ℕ) (came : Result Start CoreFault) → HaveNoTakes (start_events name image came)
+  start_none : (image : List ℕ) (came : Result Start StartFault) → HaveNoTakes (start_events name image came)
   start_none image (Ok (start.Running inc)) = (refl, tt)
   start_none image (Ok (start.Attached inc)) = (refl, tt)
   start_none image (Ok (start.Users users)) = (refl, tt)
   start_none image (Ok start.Detached) = (refl, tt)
-  start_none image (Err why) = core_fault_none image why
+  start_none image (Err why) = start_fault_none image why
 
-  leave_none : (last : Event) (came : Result Leave CoreFault) → is_take_line last ≡ false → HaveNoTakes (leave_events name last came)
+  leave_none : (last : Event) (came : Result Leave LeaveFault) → is_take_line last ≡ false → HaveNoTakes (leave_events name last came)
   leave_none last (Ok (leave.Users users)) none = (refl, tt)
   leave_none last (Ok (leave.Last None)) none = (none, tt)
   leave_none last (Ok (leave.Last (Some inc))) none = (refl, (none, tt))
   leave_none last (Ok leave.Limit) none = tt
-  leave_none last (Err why) none = core_fault_none name why
+  leave_none last (Err why) none = (leave_fault_none why, tt)
 
   crash_none : (kind : CrashKind) (closed : Option ℕ) → HaveNoTakes (crash_events name kind closed)
   crash_none kind None = (refl, tt)
@@ -161,7 +163,7 @@ module _ (name : List ℕ) where
 
 -- ---- what is done under the name of a core
 
-module _ (images : List ImageState) (answer : Answer) (is_quiet : Bool) (on : NamedCoreState) (steps : ℕ) where
+module _ (images : List ImageState) (answer : ImageAnswer) (is_quiet : Bool) (on : NamedCoreState) (steps : ℕ) where
   act_none : (asked : CoreAct) → may_take (under.Core asked) ≡ false → HaveNoTakes (core_act_effect images answer is_quiet on steps asked).events
   unfolding core_act_effect started_effect shutdown_effect detach_effect crash_effect
   act_none (core.Region region) none = region_none on.name on.core steps region

@@ -1,4 +1,5 @@
 -- The rings of the link of a core are sound: it is made over rings of a sound table, and each change keeps them.
+use Rattle.rp_io.specs.Images.{ImageAnswer}
 use Rattle.channel_bus.specs.Sides.{side_meaning}
 use Rattle.core_laws.proofs.DriveWalks.{AreKeptParts, drive_kept}
 use Rattle.core_laws.proofs.Outcomes.{IsLoadOf, Stays, none_mapped, report_left}
@@ -7,12 +8,12 @@ use Rattle.core_laws.specs.DriveParts.{MayDrive}
 use Rattle.crash_recover.proofs.Loads.{pair_config}
 use Rattle.core_actors.specs.Actors.{driver_names}
 use Rattle.crash_recover.specs.CoreActs.{act_on_core, core_act_on}
-use Rattle.crash_recover.specs.CoreBoots.{Found, core_bench, fresh_end, image_fault, load_in, load_of, started_core}
+use Rattle.crash_recover.specs.CoreBoots.{core_bench, fresh_end, image_fault, load_in, load_of, started_core}
 use Rattle.crash_recover.specs.CoreCrashes.{after_report, crashed_core}
 use Rattle.crash_recover.specs.Cores.{CoreState, LoadState, loaded_rings, new_core}
 use Rattle.core_actors.specs.ActorEnds.{actors_after_end}
 use Rattle.crash_recover.specs.Drives.{drive_step}
-use Rattle.crash_recover.specs.declared.core_faults.CoreFault.TheVariants as fault
+use Rattle.crash_recover.specs.declared.core_faults.StartFault.TheVariants as start_fault
 use Rattle.fw_load.proofs.Steps.{pair_sound}
 use Rattle.fw_load.specs.Loading.{Loads, load_fault}
 use Rattle.fw_load.specs.Rings.{IsSoundPair, pair_from, pair_of}
@@ -48,7 +49,6 @@ use Rattle.command_run.specs.CoreCommands.{core_effect}
 use Rattle.command_run.specs.NamedCores.{NamedCoreState}
 use Rattle.command_run.specs.NamedImages.{ImageState}
 use Rattle.command_run.specs.Runs.{regions_of}
-use Rattle.command_run.specs.Stores.{Answer}
 use Rattle.link_commands.specs.declared.acts.NamedAct.{NamedAct}
 use Rattle.std.proofs.Common.{inl, inr, Bool, Err, IfSome, List, None, Ok, Option, Result, Some, [], ap, arith, cond, false, is_some, map, option_map, refl, subst, suc, sym, true, zero, ℕ, ◌+◌, ◌<◌, ◌==◌, ◌∷◌, ◌≡◌, ◌≤◌, ◌∙◌}
 use Rattle.std.proofs.lemmas.Bool.{eqb-true, true≢false}
@@ -110,8 +110,8 @@ image_sound image regions sound loads =
     (patched_sound image regions placed sound loads (fits.placed ∙ ap Ok (sym (ap placed_in fits.placed))) (table_of image) refl)
 
 -- what is loaded of an image that nothing refuses
-loaded_sound : (core : CoreState) (found : Found) → SoundRegions core.regions → image_fault core found ≡ None → IfSome (load_in core found).rings IsSoundPair
-loaded_sound core (Ok image) sound none = image_sound image core.regions sound (none_mapped fault.Load (load_fault image core.regions) none)
+loaded_sound : (core : CoreState) (found : ImageAnswer) → SoundRegions core.regions → image_fault core found ≡ None → IfSome (load_in core found).rings IsSoundPair
+loaded_sound core (Ok image) sound none = image_sound image core.regions sound (none_mapped start_fault.Load (load_fault image core.regions) none)
 loaded_sound core (Err why) sound none = absurd (true≢false (ap is_some none))
 
 -- ---- links with sound rings
@@ -267,7 +267,7 @@ rung_cores = record {
   act = λ core steps asked fits is. record { sound = sound_cores.act core steps asked fits is.sound; rung = act_rung core steps asked core.bench refl fits is.sound.reached.bench is.rung };
 }
 
-pub core_rung : (images : List ImageState) (answer : Answer) (on : NamedCoreState) (steps : ℕ) → IsSoundCore on.core → IsRungCore on.core → (is_quiet : Bool) (wanted : NamedAct (List ℕ))
+pub core_rung : (images : List ImageState) (answer : ImageAnswer) (on : NamedCoreState) (steps : ℕ) → IsSoundCore on.core → IsRungCore on.core → (is_quiet : Bool) (wanted : NamedAct (List ℕ))
     → FitsNamed IsFitAct wanted → IsRungCore (core_effect images answer is_quiet on steps wanted).core
 core_rung images answer on steps sound is is_quiet wanted fits =
     (core_kept IsFitAct IsSoundRung rung_cores images answer is_quiet on steps wanted fits (record { sound = sound; rung = is })).rung

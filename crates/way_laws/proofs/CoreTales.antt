@@ -1,6 +1,7 @@
 -- What is done under the name of a core keeps the tale of its link.
 use Rattle.std.proofs.Common.{◌≡◌, ℕ, [], Bool, true, false, cond, List, Option, Some, None, IfSome, option_map, Result, Ok, Err, refl, sym, subst}
 use Rattle.std.proofs.lemmas.Bool.{cond_both}
+use Rattle.rp_io.specs.Images.{ImageAnswer}
 use Rattle.rp_base.specs.declared.kinds.End.{End}
 use Rattle.rp_base.specs.declared.kinds.End.TheVariants as side
 use Rattle.rp_base.specs.declared.kinds.CrashKind.{CrashKind}
@@ -29,12 +30,13 @@ use Rattle.link_bench.specs.Benches.{BenchState, link_in}
 use Rattle.crash_recover.specs.declared.core_answers.Leave.{Leave}
 use Rattle.crash_recover.specs.declared.core_answers.Start.{Start}
 use Rattle.crash_recover.specs.declared.core_answers.Start.TheVariants as start
-use Rattle.crash_recover.specs.declared.core_faults.CoreFault.{CoreFault}
-use Rattle.crash_recover.specs.declared.core_faults.CoreFault.TheVariants as fault
+use Rattle.crash_recover.specs.declared.core_faults.LeaveFault.{LeaveFault}
+use Rattle.crash_recover.specs.declared.core_faults.StartFault.{StartFault}
+use Rattle.crash_recover.specs.declared.core_faults.StartFault.TheVariants as start_fault
 use Rattle.crash_recover.specs.declared.core_faults.AddFault.{AddFault}
 use Rattle.crash_recover.specs.CoreCrashes.{report_of}
 use Rattle.crash_recover.specs.CoreActs.{core_act_on}
-use Rattle.crash_recover.specs.CoreBoots.{Found, boot_as, boot_of, config_of, core_bench, first_boot, fresh_end, handover_as, handover_of, image_fault, load_in, started_core, with_load}
+use Rattle.crash_recover.specs.CoreBoots.{boot_as, boot_of, config_of, core_bench, first_boot, fresh_end, handover_as, handover_of, image_fault, load_in, started_core, with_load}
 use Rattle.crash_recover.specs.CoreLeaves.{close_or, detach_of, detached_core, leave_as, live_inc, shutdown_of, unloaded_core}
 use Rattle.crash_recover.specs.CoreRecoveries.{after_recovery, core_to_reopen, recovery_fault, recovery_of, reload_fault, reopen_fault}
 use Rattle.crash_recover.specs.Cores.{CoreOutcome, CoreState, add_fault, driver_add_fault, loaded_rings, refuse_or}
@@ -56,7 +58,6 @@ use Rattle.command_run.specs.CoreLinks.{core_link_effect}
 use Rattle.command_run.specs.CoreLives.{booted_image, crash_effect, detach_effect, found_image, may_step, shutdown_effect, started_effect}
 use Rattle.command_run.specs.NamedCores.{NamedCoreState}
 use Rattle.command_run.specs.NamedImages.{ImageState}
-use Rattle.command_run.specs.Stores.{Answer}
 use Rattle.run_laws.specs.Drives.{after_steps, drive_made}
 use Rattle.run_laws.proofs.CoreWalks.{FitsNamed}
 use Rattle.run_laws.proofs.CoresReady.{IsSoundCore, may_drive, sound_cores}
@@ -118,39 +119,39 @@ rings_begun names book first (Some rings) = made_begun names book first rings
 -- ---- the life of a core
 
 module _ (end : End) (core : CoreState) (account : Option Account) (is : TaleIf end core.bench account) where
-  abbrev Booted : CoreOutcome Start CoreFault → Type 0
+  abbrev Booted : CoreOutcome Start StartFault → Type 0
   Booted done = TaleIf end done.core.bench (started_account done.core.bench done.answer account)
 
-  unless_booted : (why : Option CoreFault) (done : CoreOutcome Start CoreFault) → Booted done → Booted (refuse_or core why done)
+  unless_booted : (why : Option StartFault) (done : CoreOutcome Start StartFault) → Booted done → Booted (refuse_or core why done)
   unless_booted None done rest = rest
   unless_booted (Some why) done rest = is
 
-  first_booted : (life : CoreLife) (name : List ℕ) (found : Found) → Booted (first_boot life core name found)
+  first_booted : (life : CoreLife) (name : List ℕ) (found : ImageAnswer) → Booted (first_boot life core name found)
   first_booted life name found =
-      let done : CoreOutcome Start CoreFault = record { core = started_core life (with_load core name (load_in core found)); answer = Ok (start.Running life.incarnation) } in
+      let done : CoreOutcome Start StartFault = record { core = started_core life (with_load core name (load_in core found)); answer = Ok (start.Running life.incarnation) } in
       cond_both (is_offline core.life.state) (refuse_or core (image_fault core found) done) (record { core = started_core life core; answer = Ok (start.Attached life.incarnation) }) Booted
       (λ _. unless_booted (image_fault core found) done (begun_if end _ (rings_begun (driver_names core.actors) core.book life.incarnation (load_in core found).rings)))
       (λ _. begun_if end _ (rings_begun (driver_names core.actors) core.book life.incarnation (loaded_rings core.loaded)))
 
-  booted_as : (life : CoreLife) (answer : Result Power LifeFault) (name : List ℕ) (found : Found) → Booted (boot_as life answer core name found)
+  booted_as : (life : CoreLife) (answer : Result Power LifeFault) (name : List ℕ) (found : ImageAnswer) → Booted (boot_as life answer core name found)
   booted_as life (Err why) name found = is
   booted_as life (Ok (power.Counted users)) name found = is
   booted_as life (Ok power.First) name found = first_booted life name found
 
-  boot_tale : (name : List ℕ) (found : Found) → Booted (boot_of core name found)
+  boot_tale : (name : List ℕ) (found : ImageAnswer) → Booted (boot_of core name found)
   unfolding boot_of
   boot_tale name found = booted_as (life_after_boot core.life).life (life_after_boot core.life).answer name found
 
   -- ---- the last user
 
-  abbrev Left : CoreOutcome Leave CoreFault → Type 0
+  abbrev Left : CoreOutcome Leave LeaveFault → Type 0
   Left done = TaleIf end done.core.bench (left_account done.core.bench account)
 
   left_same : (found : Option BenchState) → TaleIf end found account → TaleIf end found (left_account found account)
   left_same None same = tt
   left_same (Some bench) same = same
 
-  unless_left : (why : Option CoreFault) (done : CoreOutcome Leave CoreFault) → Left done → Left (refuse_or core why done)
+  unless_left : (why : Option LeaveFault) (done : CoreOutcome Leave LeaveFault) → Left done → Left (refuse_or core why done)
   unless_left None done rest = rest
   unless_left (Some why) done rest = left_same core.bench is
 
@@ -189,17 +190,17 @@ module _ (end : End) (core : CoreState) (account : Option Account) (is : TaleIf 
     live = refl;
   }
 
-  unless_life : (why : Option LifeFault) (done : CoreOutcome Start CoreFault) (behind : Option Account) → TaleIf end done.core.bench behind
-      → TaleIf end (refuse_or core (option_map fault.Life why) done).core.bench (unless_some why account behind)
+  unless_life : (why : Option LifeFault) (done : CoreOutcome Start StartFault) (behind : Option Account) → TaleIf end done.core.bench behind
+      → TaleIf end (refuse_or core (option_map start_fault.Life why) done).core.bench (unless_some why account behind)
   unless_life None done behind rest = rest
   unless_life (Some why) done behind rest = is
 
-  unless_fault : (now : CoreState) (then : Option Account) (why : Option CoreFault) (done : CoreOutcome Start CoreFault) (behind : Option Account) → TaleIf end now.bench then → TaleIf end done.core.bench behind
+  unless_fault : (now : CoreState) (then : Option Account) (why : Option StartFault) (done : CoreOutcome Start StartFault) (behind : Option Account) → TaleIf end now.bench then → TaleIf end done.core.bench behind
       → TaleIf end (refuse_or now why done).core.bench (unless_some why then behind)
   unless_fault now then None done behind refused rest = rest
   unless_fault now then (Some why) done behind refused rest = refused
 
-  recovery_tale : (found : Found) → TaleIf end (recovery_of core found).core.bench (recovery_account end core found account)
+  recovery_tale : (found : ImageAnswer) → TaleIf end (recovery_of core found).core.bench (recovery_account end core found account)
   unfolding recovery_of
   recovery_tale found =
       unless_life (recovery_fault core.life) _ _
@@ -248,7 +249,7 @@ link_effect_bench name core steps asked (Some bench) = refl
 
 -- ---- what is done under the name of a core
 
-module _ (end : End) (images : List ImageState) (answer : Answer) (on : NamedCoreState) (steps : ℕ) (account : Option Account) (is : TaleIf end on.core.bench account) where
+module _ (end : End) (images : List ImageState) (answer : ImageAnswer) (on : NamedCoreState) (steps : ℕ) (account : Option Account) (is : TaleIf end on.core.bench account) where
   -- the link is as it was
   abbrev Same : CoreEffect → Type 0
   Same effect = TaleIf end effect.core.bench account
@@ -269,11 +270,11 @@ module _ (end : End) (images : List ImageState) (answer : Answer) (on : NamedCor
   unfolding driver_effect
   driver_same channel kind = declared channel kind (driver_add_fault on.core channel)
 
-  image_left : (why : Option CoreFault) (done : CoreOutcome Start CoreFault) → TaleIf end done.core.bench account → TaleIf end (refuse_or on.core why done).core.bench account
+  image_left : (why : Option StartFault) (done : CoreOutcome Start StartFault) → TaleIf end done.core.bench account → TaleIf end (refuse_or on.core why done).core.bench account
   image_left None done rest = rest
   image_left (Some why) done rest = is
 
-  handover_left : (life : CoreLife) (told : Result (Unit {0}) LifeFault) (name : List ℕ) (found : Found) → TaleIf end (handover_as life told on.core name found).core.bench account
+  handover_left : (life : CoreLife) (told : Result (Unit {0}) LifeFault) (name : List ℕ) (found : ImageAnswer) → TaleIf end (handover_as life told on.core name found).core.bench account
   handover_left life (Err why) name found = is
   handover_left life (Ok done) name found = image_left (image_fault on.core found) _ is
 

@@ -4,6 +4,7 @@ use Rattle.std.specs.Prelude.{All, Contains}
 use Rattle.std.proofs.lemmas.Bool.{true≢false}
 use Rattle.std.proofs.lemmas.Bool.Decides.{eqb_tells}
 use Rattle.std.proofs.lemmas.List.Elements.{All-weaker, Contains-push}
+use Rattle.rp_io.specs.Images.{ImageAnswer}
 use Rattle.rp_base.specs.declared.kinds.End.{End}
 use Rattle.lane_laws.specs.Handings.{Handing}
 use Rattle.script_lang.specs.declared.commands.Command.{Command}
@@ -20,7 +21,7 @@ use Rattle.link_commands.specs.NamedLinks.{NamedLink}
 use Rattle.command_run.specs.CoreCommands.{core_act_effect, core_effect}
 use Rattle.command_run.specs.NamedCores.{NamedCoreState}
 use Rattle.command_run.specs.Runs.{RunEffect, RunState, core_place, effect_by_core_place, effect_of, effect_of_core, line_effect, name_effect, place_of, run_of, unnamed_effect, without_link_effect}
-use Rattle.command_run.specs.Stores.{Answer, Told}
+use Rattle.command_run.specs.Stores.{Told}
 use Rattle.way_laws.specs.CommandTakes.{AreTakesOfRun, IsTakeOfCore, IsTakeOfLink, core_takes, line_may_take}
 use Rattle.way_laws.specs.CoreAccounts.{done_on_core, is_unlinked}
 use Rattle.way_laws.specs.RunAccounts.{done_at, is_place, named_takes}
@@ -62,7 +63,7 @@ own_place at place is = ap (λ (found : Option ℕ). is_place found place) is �
 
 -- ---- under a name that nothing has
 
-module _ (answer : Answer) (run : RunState) (name : List ℕ) (wanted : NamedAct (List ℕ)) where
+module _ (answer : ImageAnswer) (run : RunState) (name : List ℕ) (wanted : NamedAct (List ℕ)) where
   no_core_there : (place : ℕ) (found : Option NamedCoreState) → is_none found ≡ true → effect_of_core answer run name wanted place found ≡ unnamed_effect run name wanted
   no_core_there place None none = refl
   no_core_there place (Some on) none = absurd (true≢false (sym none))
@@ -73,7 +74,7 @@ module _ (answer : Answer) (run : RunState) (name : List ℕ) (wanted : NamedAct
 
 -- ---- the commands of a run
 
-module _ (told : Told) (commands : List Command) (runs : AreRunnable commands) (answer : Answer) (asked : Command) (may : IsRunnable asked) where
+module _ (told : Told) (commands : List Command) (runs : AreRunnable commands) (answer : ImageAnswer) (asked : Command) (may : IsRunnable asked) where
   abbrev run : RunState
   run = (run_of told commands).last
 

@@ -2,6 +2,7 @@
 use Rattle.std.proofs.Common.{◌≡◌, ℕ, Bool, false, cond, List, [], ◌∷◌, ◌++◌, length, Option, Some, None, is_some, Result, Ok, Err, slice_get, slice_set, refl, sym, ap, ◌∙◌, inl, inr}
 use Rattle.std.proofs.lemmas.Bool.{cond_both, true≢false}
 use Rattle.std.proofs.lemmas.Bool.Decides.{eqb_tells}
+use Rattle.rp_io.specs.Images.{ImageAnswer}
 use Rattle.rp_base.specs.declared.kinds.Switch.{Switch}
 use Rattle.lane_model.specs.declared.calls.LinkConfig.{LinkConfig}
 use Rattle.script_lang.specs.declared.commands.Command.{Command}
@@ -22,7 +23,6 @@ use Rattle.link_commands.specs.LinkCommands.{link_effect}
 use Rattle.command_run.specs.NamedCores.{NamedCoreState}
 use Rattle.link_commands.specs.NamedLinks.{NamedLink}
 use Rattle.command_run.specs.Runs.{RunEffect, RunState, effect_by_core_place, core_made_effect, core_place, dump_answer, dump_effect, dump_effect_of, effect_of, effect_of_core, effect_of_link, has_image, image_effect, is_full, line_effect, effect_by_link_place, made_effect, making_effect, name_effect, new_end, place_of, quiet_effect, run_tells, unnamed_effect, with_image, without_link_effect}
-use Rattle.command_run.specs.Stores.{Answer}
 use Rattle.way_laws.specs.RunAccounts.{done_at, is_place}
 
 -- a line does nothing under the name of a link
@@ -71,21 +71,21 @@ module _ (run : RunState) (done : Line (List RecipeLine) (List ℕ)) (P : List N
     unnamed (under.Show shown) is = holds.same is_untouched
     unnamed (under.Core asked) is = holds.same is_untouched
 
-    core_at : (answer : Answer) (wanted : NamedAct (List ℕ)) (at : ℕ) (core : Option NamedCoreState) → done ≡ line.On name wanted → After (effect_of_core answer run name wanted at core)
+    core_at : (answer : ImageAnswer) (wanted : NamedAct (List ℕ)) (at : ℕ) (core : Option NamedCoreState) → done ≡ line.On name wanted → After (effect_of_core answer run name wanted at core)
     core_at answer wanted at None is = unnamed wanted is
     core_at answer wanted at (Some core) is = holds.same is_untouched
 
-    core_located : (answer : Answer) (wanted : NamedAct (List ℕ)) (at : Option ℕ) → done ≡ line.On name wanted → After (effect_by_core_place answer run name wanted at)
+    core_located : (answer : ImageAnswer) (wanted : NamedAct (List ℕ)) (at : Option ℕ) → done ≡ line.On name wanted → After (effect_by_core_place answer run name wanted at)
     core_located answer wanted None is = unnamed wanted is
     core_located answer wanted (Some at) is = core_at answer wanted at (slice_get run.objects.cores at) is
 
-    without_link : (answer : Answer) (wanted : NamedAct (List ℕ)) → done ≡ line.On name wanted → After (without_link_effect answer run name wanted)
+    without_link : (answer : ImageAnswer) (wanted : NamedAct (List ℕ)) → done ≡ line.On name wanted → After (without_link_effect answer run name wanted)
     unfolding without_link_effect
     without_link answer wanted is = core_located answer wanted (core_place run.objects.cores name) is
 
   -- ---- what is done under a name
 
-  module _ (answer : Answer) (name : List ℕ) (wanted : NamedAct (List ℕ)) (is : done ≡ line.On name wanted) where
+  module _ (answer : ImageAnswer) (name : List ℕ) (wanted : NamedAct (List ℕ)) (is : done ≡ line.On name wanted) where
     done_as : (place : ℕ) → done_at run place done ≡ cond (is_place (place_of run.objects.links name) place) (Some wanted) None
     done_as place = ap (done_at run place) is
 
@@ -131,13 +131,13 @@ module _ (run : RunState) (done : Line (List RecipeLine) (List ℕ)) (P : List N
   unfolding dump_effect
   dump_after name image none = dumped image (dump_answer run.objects name image) none
 
-  by_line : (answer : Answer) (now : Line (List RecipeLine) (List ℕ)) → done ≡ now → After (line_effect answer run now)
+  by_line : (answer : ImageAnswer) (now : Line (List RecipeLine) (List ℕ)) → done ≡ now → After (line_effect answer run now)
   by_line answer (line.Image name lines) is = imaged name lines (λ place on found. ap (done_at run place) is)
   by_line answer (line.Quiet set) is = quieted set (λ place on found. ap (done_at run place) is)
   by_line answer (line.Dump name image) is = dump_after name image (λ place on found. ap (done_at run place) is)
   by_line answer (line.On name wanted) is = by_name answer name wanted is
 
 -- behind a command
-pub holds_after : (answer : Answer) (run : RunState) (asked : Command) (P : List NamedLink → Type 0) → HoldsAfter run (line_of asked) P → P (effect_of answer run asked).run.objects.links
+pub holds_after : (answer : ImageAnswer) (run : RunState) (asked : Command) (P : List NamedLink → Type 0) → HoldsAfter run (line_of asked) P → P (effect_of answer run asked).run.objects.links
 unfolding effect_of
 holds_after answer run asked P holds = by_line run (line_of asked) P holds answer (line_of asked) refl

@@ -1,20 +1,21 @@
 -- What each command keeps of a run and of what is noted beside it holds at the end of a run.
 use Rattle.std.proofs.Common.{List, [], ◌∷◌, Option, Some, None}
+use Rattle.rp_io.specs.Images.{ImageAnswer}
 use Rattle.script_lang.specs.declared.commands.Command.{Command}
 use Rattle.script_lang.specs.Runnable.{AreRunnable, IsRunnable}
 use Rattle.link_commands.specs.declared.stops.Stop.{Stop}
 use Rattle.command_run.specs.Runs.{Run, RunEffect, RunState, asked_name, effect_of, run_from, run_on, run_told}
-use Rattle.command_run.specs.Stores.{Answer, Told, later_told, told_answer}
+use Rattle.command_run.specs.Stores.{Told, later_told, told_answer}
 use Rattle.way_laws.specs.Notes.{Noting, notes_from, notes_of_command, notes_on}
 
 module _ {A : Type 0} (note : Noting A) (P : RunState → A → Type 0)
-    (keep : (answer : Answer) (run : RunState) (asked : Command) (noted : A) → IsRunnable asked → P run noted
+    (keep : (answer : ImageAnswer) (run : RunState) (asked : Command) (noted : A) → IsRunnable asked → P run noted
     → P (effect_of answer run asked).run (note answer run asked (effect_of answer run asked).run noted)) where
   on_kept : (effect : RunEffect) (ending : Option Stop) (later : Run) (now behind : A) → P effect.run now → P later.last behind → P (run_on effect ending later).last (notes_on ending now behind)
   on_kept effect None later now behind left rest = rest
   on_kept effect (Some why) later now behind left rest = left
 
-  told_kept : (run : RunState) (asked : Command) (answer : Option Answer) (noted : A) (later : RunState → Run) (behind : RunState → A → A) → IsRunnable asked → P run noted
+  told_kept : (run : RunState) (asked : Command) (answer : Option ImageAnswer) (noted : A) (later : RunState → Run) (behind : RunState → A → A) → IsRunnable asked → P run noted
       → ((next : RunState) (now : A) → P next now → P (later next).last (behind next now)) → P (run_told run asked answer later).last (notes_of_command note run asked answer noted behind)
   told_kept run asked None noted later behind runs is rest = is
   told_kept run asked (Some answer) noted later behind runs is rest =

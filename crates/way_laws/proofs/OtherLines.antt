@@ -3,6 +3,7 @@ use Rattle.std.proofs.Common.{◌≡◌, ℕ, Bool, false, List, Option, Some, N
 use Rattle.std.specs.Prelude.{nat_le, nat_lt}
 use Rattle.std.proofs.lemmas.Bool.{cond_both, true≢false}
 use Rattle.std.proofs.lemmas.List.Elements.{All-from_recursion}
+use Rattle.rp_io.specs.Images.{ImageAnswer}
 use Rattle.rp_base.specs.declared.limits.TheConstants.{IMAGE_MOST}
 use Rattle.script_lang.specs.declared.commands.Command.{Command}
 use Rattle.script_lang.specs.declared.recipes.RecipeLine.{RecipeLine}
@@ -21,7 +22,6 @@ use Rattle.link_commands.specs.NamedLinks.{NamedLink}
 use Rattle.command_run.specs.Dumps.{bytes_answer, core_answer, crashed_load, kept_dumps, load_answer}
 use Rattle.command_run.specs.NamedCores.{NamedCoreState}
 use Rattle.command_run.specs.Runs.{RunEffect, RunState, core_made_effect, core_named, core_place, dump_answer, dump_effect, dump_effect_of, effect_by_core_place, effect_by_link_place, effect_of, effect_of_core, effect_of_link, has_image, image_effect, is_full, line_effect, made_effect, making_effect, name_effect, place_of, quiet_effect, unnamed_effect, without_link_effect}
-use Rattle.command_run.specs.Stores.{Answer}
 use Rattle.way_laws.specs.CommandTakes.{line_may_take, may_take}
 use Rattle.way_laws.specs.WordedTakes.{TellNoTakes, is_take_line}
 use Rattle.way_laws.proofs.CoreLines.{core_none}
@@ -89,7 +89,7 @@ link_none on steps (under.Manage manager.Reopen) none = reopened_none on.name on
 link_none on steps (under.Show shown) none = view_none on.name on.bench shown
 link_none on steps (under.Core asked) none = (refl, tt)
 
-module _ (answer : Answer) (run : RunState) (name : List ℕ) (wanted : NamedAct (List ℕ)) (none : may_take wanted ≡ false) where
+module _ (answer : ImageAnswer) (run : RunState) (name : List ℕ) (wanted : NamedAct (List ℕ)) (none : may_take wanted ≡ false) where
   at_core : (place : ℕ) (found : Option NamedCoreState) → HasNoTakes (effect_of_core answer run name wanted place found)
   at_core place None = unnamed_none run name wanted
   at_core place (Some on) = core_none run.objects.images answer run.objects.is_quiet on run.steps wanted none
@@ -116,7 +116,7 @@ module _ (answer : Answer) (run : RunState) (name : List ℕ) (wanted : NamedAct
 
 -- ---- commands
 
-pub line_none : (answer : Answer) (run : RunState) (done : Line (List RecipeLine) (List ℕ)) → line_may_take done ≡ false → HasNoTakes (line_effect answer run done)
+pub line_none : (answer : ImageAnswer) (run : RunState) (done : Line (List RecipeLine) (List ℕ)) → line_may_take done ≡ false → HasNoTakes (line_effect answer run done)
 unfolding quiet_effect
 line_none answer run (line.Image name lines) none = image_none run name lines
 line_none answer run (line.Quiet set) none = tt
@@ -127,12 +127,12 @@ pub no_takes : (events : List Event) → HaveNoTakes events → TellNoTakes even
 no_takes events none = All-from_recursion (λ (line : Event). is_take_line line ≡ false) events none
 
 -- neither an act on a link nor a drive
-pub others_none : (answer : Answer) (run : RunState) (asked : Command) → line_may_take (line_of asked) ≡ false → TellNoTakes (effect_of answer run asked).events
+pub others_none : (answer : ImageAnswer) (run : RunState) (asked : Command) → line_may_take (line_of asked) ≡ false → TellNoTakes (effect_of answer run asked).events
 unfolding effect_of
 others_none answer run asked none = no_takes (line_effect answer run (line_of asked)).events (line_none answer run (line_of asked) none)
 
 -- under a name that neither a link nor a core has
-pub nameless_none : (answer : Answer) (run : RunState) (asked : Command) (name : List ℕ) (wanted : NamedAct (List ℕ)) → line_of asked ≡ line.On name wanted
+pub nameless_none : (answer : ImageAnswer) (run : RunState) (asked : Command) (name : List ℕ) (wanted : NamedAct (List ℕ)) → line_of asked ≡ line.On name wanted
     → place_of run.objects.links name ≡ None → core_place run.objects.cores name ≡ None → TellNoTakes (effect_of answer run asked).events
 unfolding effect_of name_effect without_link_effect
 nameless_none answer run asked name wanted is linkless coreless =

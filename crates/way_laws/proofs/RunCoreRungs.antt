@@ -2,6 +2,7 @@
 use Rattle.std.proofs.Common.{◌≡◌, ℕ, ◌==◌, cond, List, All, Option, Some, None, IfSome, slice_get, slice_set, refl, ap, subst, ◌∙◌}
 use Rattle.std.proofs.lemmas.Bool.{eq-eqb}
 use Rattle.std.proofs.lemmas.List.Elements.{All-nil, All-push, All-set}
+use Rattle.rp_io.specs.Images.{ImageAnswer}
 use Rattle.lane_laws.specs.SoundRingLinks.{HasSoundRings}
 use Rattle.script_lang.specs.declared.commands.Command.{Command}
 use Rattle.script_lang.specs.Runnable.{AreRunnable, IsRunnable}
@@ -11,7 +12,7 @@ use Rattle.link_commands.specs.declared.acts.NamedAct.{NamedAct}
 use Rattle.link_commands.specs.Acts.{line_of}
 use Rattle.command_run.specs.NamedCores.{NamedCoreState}
 use Rattle.command_run.specs.Runs.{RunState, effect_of, new_run, run_of}
-use Rattle.command_run.specs.Stores.{Answer, Told}
+use Rattle.command_run.specs.Stores.{Told}
 use Rattle.run_laws.proofs.CoreWalks.{FitsNamed}
 use Rattle.run_laws.proofs.CoresReady.{IsSoundCore}
 use Rattle.run_laws.proofs.RunWalks.{item_at}
@@ -26,7 +27,7 @@ use Rattle.way_laws.proofs.RunCoreTales.{core_behind, done_fits, holds_after, ma
 abbrev AreRung : List NamedCoreState → Type 0
 AreRung cores = All (λ (named : NamedCoreState). IsRungCore named.core) cores
 
-module _ (answer : Answer) (run : RunState) (asked : Command) (runs : IsRunnable asked) (sound : AreSound run.objects) (are : AreRung run.objects.cores) where
+module _ (answer : ImageAnswer) (run : RunState) (asked : Command) (runs : IsRunnable asked) (sound : AreSound run.objects) (are : AreRung run.objects.cores) where
   put_rung : (wanted : NamedAct (List ℕ)) (at : ℕ) (on : NamedCoreState) → ((place : ℕ) → done_on_core run place (line_of asked) ≡ cond (at == place) (Some wanted) None) → slice_get run.objects.cores at ≡ Some on
       → AreRung (slice_set run.objects.cores at (core_behind answer run on wanted))
   put_rung wanted at on acted found =

@@ -3,6 +3,7 @@ use Rattle.std.proofs.Common.{◌≡◌, ℕ, ◌==◌, ◌&&◌, Bool, true, fa
 use Rattle.std.specs.Option.{IsSomeAnd, option_and_then}
 use Rattle.std.proofs.lemmas.Bool.{cond_both, true≢false}
 use Rattle.std.proofs.lemmas.Bool.Decides.{eqb_tells}
+use Rattle.rp_io.specs.Images.{ImageAnswer}
 use Rattle.rp_base.specs.declared.kinds.End.{End}
 use Rattle.rp_base.specs.declared.kinds.End.TheVariants as side
 use Rattle.rp_base.specs.declared.kinds.Switch.{Switch}
@@ -29,7 +30,7 @@ use Rattle.command_run.specs.CoreCommands.{core_effect}
 use Rattle.command_run.specs.NamedCores.{NamedCoreState}
 use Rattle.link_commands.specs.NamedLinks.{NamedLink}
 use Rattle.command_run.specs.Runs.{RunEffect, RunState, effect_by_core_place, core_made_effect, core_place, dump_answer, dump_effect, dump_effect_of, effect_of, effect_of_core, effect_of_link, has_image, image_effect, is_full, line_effect, effect_by_link_place, made_effect, making_effect, name_effect, new_run, place_of, quiet_effect, regions_of, run_of, run_tells, unnamed_effect, with_image, without_link_effect}
-use Rattle.command_run.specs.Stores.{Answer, Told}
+use Rattle.command_run.specs.Stores.{Told}
 use Rattle.run_laws.proofs.CoreWalks.{FitsNamed}
 use Rattle.run_laws.proofs.CoresReady.{IsSoundCore}
 use Rattle.run_laws.proofs.RunWalks.{FitsLine, item_at}
@@ -55,17 +56,17 @@ abbrev pub made_core : List ℕ → RegionSet → ℕ → NamedCoreState
 made_core name set book = record { name = name; core = new_core (regions_of set) [] book }
 
 -- a core with what is done under its name
-abbrev pub core_behind : Answer → RunState → NamedCoreState → NamedAct (List ℕ) → NamedCoreState
+abbrev pub core_behind : ImageAnswer → RunState → NamedCoreState → NamedAct (List ℕ) → NamedCoreState
 core_behind answer run on wanted = record on { core = (core_effect run.objects.images answer run.objects.is_quiet on run.steps wanted).core }
 
 -- this holds of each list of cores that a line may leave
-pub record HoldsAfter (answer : Answer) (run : RunState) (done : Line (List RecipeLine) (List ℕ)) (P : List NamedCoreState → Type 0) : Type 0 where
+pub record HoldsAfter (answer : ImageAnswer) (run : RunState) (done : Line (List RecipeLine) (List ℕ)) (P : List NamedCoreState → Type 0) : Type 0 where
   pub same : IsUntouched run done → P run.objects.cores
   pub made : (name : List ℕ) (set : RegionSet) (book : ℕ) → IsUntouched run done → done ≡ line.On name (under.Make (making.Core set book)) → P (run.objects.cores ++ made_core name set book ∷ [])
   pub put : (wanted : NamedAct (List ℕ)) (at : ℕ) (on : NamedCoreState) → ((place : ℕ) → done_on_core run place done ≡ cond (at == place) (Some wanted) None) → slice_get run.objects.cores at ≡ Some on
       → P (slice_set run.objects.cores at (core_behind answer run on wanted))
 
-module _ (answer : Answer) (run : RunState) (done : Line (List RecipeLine) (List ℕ)) (P : List NamedCoreState → Type 0) (holds : HoldsAfter answer run done P) where
+module _ (answer : ImageAnswer) (run : RunState) (done : Line (List RecipeLine) (List ℕ)) (P : List NamedCoreState → Type 0) (holds : HoldsAfter answer run done P) where
   abbrev After : RunEffect → Type 0
   After effect = P effect.run.objects.cores
 
@@ -165,7 +166,7 @@ module _ (answer : Answer) (run : RunState) (done : Line (List RecipeLine) (List
   by_line (line.Dump name image) is = dump_after name image (λ place on found. ap (done_on_core run place) is)
   by_line (line.On name wanted) is = by_name name wanted is
 
-pub holds_after : (answer : Answer) (run : RunState) (asked : Command) (P : List NamedCoreState → Type 0) → HoldsAfter answer run (line_of asked) P → P (effect_of answer run asked).run.objects.cores
+pub holds_after : (answer : ImageAnswer) (run : RunState) (asked : Command) (P : List NamedCoreState → Type 0) → HoldsAfter answer run (line_of asked) P → P (effect_of answer run asked).run.objects.cores
 unfolding effect_of
 holds_after answer run asked P holds = by_line answer run (line_of asked) P holds (line_of asked) refl
 
@@ -179,7 +180,7 @@ done_fits run place (line.On name wanted) fits =
     cond_both (is_unlinked run name && is_place (core_place run.objects.cores name) place) (Some wanted) None (λ (found : Option (NamedAct (List ℕ))). IfSome found (FitsNamed IsFitAct)) (λ _. fits) (λ _. tt)
 
 -- a core behind what is done on it, if anything is
-abbrev now_of : Answer → RunState → NamedCoreState → Option (NamedAct (List ℕ)) → NamedCoreState
+abbrev now_of : ImageAnswer → RunState → NamedCoreState → Option (NamedAct (List ℕ)) → NamedCoreState
 now_of answer run on None = on
 now_of answer run on (Some wanted) = core_behind answer run on wanted
 
@@ -187,7 +188,7 @@ now_of answer run on (Some wanted) = core_behind answer run on wanted
 abbrev HasNone : NamedCoreState → Type 0
 HasNone made = made.core.bench ≡ None
 
-module _ (answer : Answer) (run : RunState) (done : Line (List RecipeLine) (List ℕ)) (place : ℕ) where
+module _ (answer : ImageAnswer) (run : RunState) (done : Line (List RecipeLine) (List ℕ)) (place : ℕ) where
   module _ (on : NamedCoreState) (found : slice_get run.objects.cores place ≡ Some on) where
     abbrev There : List NamedCoreState → Type 0
     There cores = slice_get cores place ≡ Some (now_of answer run on (done_on_core run place done))
@@ -225,7 +226,7 @@ abbrev AreLevel : End → Option NamedCoreState → Option Account → Type 0
 AreLevel end None account = account ≡ None
 AreLevel end (Some on) account = TaleIf end on.core.bench account
 
-behind_tale : (end : End) (answer : Answer) (run : RunState) (on : NamedCoreState) (acted : Option (NamedAct (List ℕ))) (account : Option Account) → IfSome acted (FitsNamed IsFitAct) → IsSoundCore on.core
+behind_tale : (end : End) (answer : ImageAnswer) (run : RunState) (on : NamedCoreState) (acted : Option (NamedAct (List ℕ))) (account : Option Account) → IfSome acted (FitsNamed IsFitAct) → IsSoundCore on.core
     → TaleIf end on.core.bench account → TaleIf end (now_of answer run on acted).core.bench (core_account_behind end run.objects.images answer on run.steps acted account)
 behind_tale end answer run on None account fits sound tale = tale
 behind_tale end answer run on (Some wanted) account fits sound tale = core_tale end run.objects.images answer on run.steps account tale run.objects.is_quiet wanted fits sound
@@ -234,7 +235,7 @@ new_level : (end : End) (found : Option NamedCoreState) → IfSome found HasNone
 new_level end None is = refl
 new_level end (Some made) is = subst (λ (bench : Option BenchState). TaleIf end bench None) (sym is) tt
 
-module _ (end : End) (place : ℕ) (answer : Answer) (run : RunState) (asked : Command) (runs : IsRunnable asked) (sound : AreSound run.objects) where
+module _ (end : End) (place : ℕ) (answer : ImageAnswer) (run : RunState) (asked : Command) (runs : IsRunnable asked) (sound : AreSound run.objects) where
   abbrev after : RunState
   after = (effect_of answer run asked).run
 

@@ -3,6 +3,7 @@ use Rattle.std.proofs.Common.{◌≡◌, ℕ, ◌&&◌, Bool, true, false, cond,
 use Rattle.std.specs.Prelude.{IfSome}
 use Rattle.std.proofs.lemmas.Bool.{true≢false}
 use Rattle.std.proofs.lemmas.Bool.Decides.{eqb_tells}
+use Rattle.rp_io.specs.Images.{ImageAnswer}
 use Rattle.script_lang.specs.declared.commands.Command.{Command}
 use Rattle.script_lang.specs.declared.recipes.RecipeLine.{RecipeLine}
 use Rattle.script_lang.specs.Runnable.{AreRunnable, IsRunnable}
@@ -20,7 +21,7 @@ use Rattle.link_commands.specs.NamedLinks.{NamedLink}
 use Rattle.command_run.specs.CoreCommands.{core_act_effect, core_effect}
 use Rattle.command_run.specs.NamedCores.{NamedCoreState}
 use Rattle.command_run.specs.Runs.{RunEffect, RunState, effect_by_core_place, core_place, effect_of, effect_of_core, effect_of_link, line_effect, effect_by_link_place, name_effect, place_of, run_of, without_link_effect}
-use Rattle.command_run.specs.Stores.{Answer, Told}
+use Rattle.command_run.specs.Stores.{Told}
 use Rattle.run_laws.proofs.CoreWalks.{FitsNamed}
 use Rattle.run_laws.proofs.CoresReady.{IsSoundCore}
 use Rattle.run_laws.proofs.RunWalks.{item_at}
@@ -48,7 +49,7 @@ same_place (Some at) place is = elim (eqb_tells at place) [
 
 -- ---- what a command tells that does something on a link
 
-module _ (answer : Answer) (run : RunState) (place : ℕ) (on : NamedLink) (found : slice_get run.objects.links place ≡ Some on) where
+module _ (answer : ImageAnswer) (run : RunState) (place : ℕ) (on : NamedLink) (found : slice_get run.objects.links place ≡ Some on) where
   link_line : (now : Line (List RecipeLine) (List ℕ)) (wanted : NamedAct (List ℕ)) → done_at run place now ≡ Some wanted → (line_effect answer run now).events ≡ (link_effect on run.steps wanted).events
   unfolding name_effect
   link_line (line.Image name lines) wanted is = absurd (cc)
@@ -67,7 +68,7 @@ module _ (answer : Answer) (run : RunState) (place : ℕ) (on : NamedLink) (foun
 -- ---- what a command tells that does something on a core
 
 -- under a name that no link has
-module _ (answer : Answer) (run : RunState) where
+module _ (answer : ImageAnswer) (run : RunState) where
   none_found : (name : List ℕ) (act : NamedAct (List ℕ)) (at : ℕ) (link : Option NamedLink) → is_none link ≡ true → effect_of_link answer run name act at link ≡ without_link_effect answer run name act
   none_found name act at None none = refl
   none_found name act at (Some link) none = absurd (true≢false (sym none))
@@ -76,7 +77,7 @@ module _ (answer : Answer) (run : RunState) where
   none_located name act None none = refl
   none_located name act (Some at) none = none_found name act at (slice_get run.objects.links at) none
 
-module _ (answer : Answer) (run : RunState) (place : ℕ) (on : NamedCoreState) (found : slice_get run.objects.cores place ≡ Some on) where
+module _ (answer : ImageAnswer) (run : RunState) (place : ℕ) (on : NamedCoreState) (found : slice_get run.objects.cores place ≡ Some on) where
   core_named : (name : List ℕ) (act wanted : NamedAct (List ℕ)) (unlinked : Bool) → is_unlinked run name ≡ unlinked → cond (unlinked && is_place (core_place run.objects.cores name) place) (Some act) None ≡ Some wanted
       → (name_effect answer run name act).events ≡ (core_effect run.objects.images answer run.objects.is_quiet on run.steps wanted).events
   unfolding name_effect without_link_effect
@@ -102,7 +103,7 @@ module _ (answer : Answer) (run : RunState) (place : ℕ) (on : NamedCoreState) 
 
 -- ---- the commands of a run
 
-module _ (told : Told) (commands : List Command) (runs : AreRunnable commands) (answer : Answer) (asked : Command) (may : IsRunnable asked) (place : ℕ) where
+module _ (told : Told) (commands : List Command) (runs : AreRunnable commands) (answer : ImageAnswer) (asked : Command) (may : IsRunnable asked) (place : ℕ) where
   abbrev run : RunState
   run = (run_of told commands).last
 

@@ -3,6 +3,7 @@ use Rattle.std.proofs.Common.{◌≡◌, ℕ, zero, suc, ◌==◌, Bool, cond, L
 use Rattle.std.specs.Option.{IsSomeAnd, option_map}
 use Rattle.std.proofs.lemmas.Bool.{cond_both, true≢false}
 use Rattle.std.proofs.lemmas.Bool.Decides.{eqb_tells}
+use Rattle.rp_io.specs.Images.{ImageAnswer}
 use Rattle.rp_base.specs.Limits.{IsRingSize}
 use Rattle.rp_base.specs.declared.kinds.End.{End}
 use Rattle.rp_base.specs.declared.kinds.End.TheVariants as side
@@ -24,7 +25,7 @@ use Rattle.link_commands.specs.declared.acts.NamedAct.TheVariants as under
 use Rattle.link_commands.specs.Acts.{line_of}
 use Rattle.link_commands.specs.NamedLinks.{NamedLink}
 use Rattle.command_run.specs.Runs.{RunState, effect_of, new_run, place_of, run_of}
-use Rattle.command_run.specs.Stores.{Answer, Told}
+use Rattle.command_run.specs.Stores.{Told}
 use Rattle.run_laws.proofs.CoreWalks.{FitsNamed}
 use Rattle.run_laws.proofs.RunWalks.{FitsLine, item_at}
 use Rattle.run_laws.proofs.RunsReached.{AreSound, command_sound, line_fits, none_sound}
@@ -153,7 +154,7 @@ new_level : (end : End) (found : Option NamedLink) → IfSome found (λ (made : 
 new_level end None is = tt
 new_level end (Some made) is = is
 
-module _ (end : End) (place : ℕ) (answer : Answer) (run : RunState) (asked : Command) (runs : IsRunnable asked) (sound : AreSound run.objects) where
+module _ (end : End) (place : ℕ) (answer : ImageAnswer) (run : RunState) (asked : Command) (runs : IsRunnable asked) (sound : AreSound run.objects) where
   abbrev after : RunState
   after = (effect_of answer run asked).run
 

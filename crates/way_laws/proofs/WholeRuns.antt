@@ -4,13 +4,14 @@ use Rattle.std.proofs.lemmas.Bool.{true≢false}
 use Rattle.std.proofs.lemmas.List.{append_assoc, length-append}
 use Rattle.std.proofs.lemmas.List.Elements.{All-append, All-nil, All-weaker}
 use Rattle.std.specs.Prelude.{All}
+use Rattle.rp_io.specs.Images.{ImageAnswer}
 use Rattle.journal.specs.declared.events.Event.{Event}
 use Rattle.script_lang.specs.declared.commands.Command.{Command}
 use Rattle.script_lang.specs.Runnable.{AreRunnable, IsRunnable}
 use Rattle.link_commands.specs.declared.stops.Stop.{Stop}
 use Rattle.link_commands.specs.Acts.{line_of}
 use Rattle.command_run.specs.Runs.{Run, RunEffect, RunState, asked_name, effect_of, new_run, run_from, run_of, run_on, run_told}
-use Rattle.command_run.specs.Stores.{Answer, Told, later_told, told_answer}
+use Rattle.command_run.specs.Stores.{Told, later_told, told_answer}
 use Rattle.way_laws.specs.CommandTakes.{IsTakeInRun, IsTakeOfCore, IsTakeOfLink}
 use Rattle.way_laws.specs.WordedTakes.{is_take_line}
 use Rattle.way_laws.proofs.EveryLine.{every_line}
@@ -44,20 +45,20 @@ unfolding run_from
 one_on told effect None is = record { last = refl; ending = sym is; failed = refl }
 one_on told effect (Some why) is = record { last = refl; ending = sym is; failed = refl }
 
-one_run : (told : Told) (state : RunState) (first : Command) (answer : Answer) → told_answer (told 0) (asked_name state.objects first) ≡ Some answer
+one_run : (told : Told) (state : RunState) (first : Command) (answer : ImageAnswer) → told_answer (told 0) (asked_name state.objects first) ≡ Some answer
     → EndsWith (run_from told state (first ∷ [])) (effect_of answer state first)
 unfolding run_from
 one_run told state first answer is =
     let effect = effect_of answer state first in
-    subst (λ (found : Option Answer). EndsWith (run_told state first found (λ next. run_from (later_told told) next [])) effect) (sym is) (one_on (later_told told) effect effect.ending refl)
+    subst (λ (found : Option ImageAnswer). EndsWith (run_told state first found (λ next. run_from (later_told told) next [])) effect) (sym is) (one_on (later_told told) effect effect.ending refl)
 
 -- a command behind others, by the run of these
-abbrev MoreEnds : Told → RunState → List Command → Command → Answer → Type 0
+abbrev MoreEnds : Told → RunState → List Command → Command → ImageAnswer → Type 0
 MoreEnds told state front first answer =
     let run = run_from told state front in
     WentOn run → told_answer (told (length front)) (asked_name run.last.objects first) ≡ Some answer → EndsWith (run_from told state (front ++ first ∷ [])) (effect_of answer run.last first)
 
-module _ (first : Command) (answer : Answer) (shelf : Option (List ℕ → Answer)) where
+module _ (first : Command) (answer : ImageAnswer) (shelf : Option (List ℕ → ImageAnswer)) where
   on_more : (effect : RunEffect) (ending : Option Stop) (run more : Run)
       → (WentOn run → told_answer shelf (asked_name run.last.objects first) ≡ Some answer → EndsWith more (effect_of answer run.last first))
       → WentOn (run_on effect ending run) → told_answer shelf (asked_name (run_on effect ending run).last.objects first) ≡ Some answer
@@ -66,7 +67,7 @@ module _ (first : Command) (answer : Answer) (shelf : Option (List ℕ → Answe
       let ends = rest (record { ending = went.ending; failed = went.failed }) is in record { last = ends.last; ending = ends.ending; failed = ends.failed }
   on_more effect (Some why) run more rest went is = absurd (true≢false (ap is_some went.ending))
 
-  told_more : (state : RunState) (asked : Command) (found : Option Answer) (run more : RunState → Run)
+  told_more : (state : RunState) (asked : Command) (found : Option ImageAnswer) (run more : RunState → Run)
       → ((next : RunState) → WentOn (run next) → told_answer shelf (asked_name (run next).last.objects first) ≡ Some answer → EndsWith (more next) (effect_of answer (run next).last first))
       → WentOn (run_told state asked found run) → told_answer shelf (asked_name (run_told state asked found run).last.objects first) ≡ Some answer
       → EndsWith (run_told state asked found more) (effect_of answer (run_told state asked found run).last first)
@@ -74,7 +75,7 @@ module _ (first : Command) (answer : Answer) (shelf : Option (List ℕ → Answe
   told_more state asked (Some given) run more rest went is =
       let effect = effect_of given state asked in on_more effect effect.ending (run effect.run) (more effect.run) (rest effect.run) went is
 
-more_run : (told : Told) (state : RunState) (front : List Command) (first : Command) (answer : Answer) → MoreEnds told state front first answer
+more_run : (told : Told) (state : RunState) (front : List Command) (first : Command) (answer : ImageAnswer) → MoreEnds told state front first answer
 unfolding run_from
 more_run told state [] first answer went is = one_run told state first answer is
 more_run told state (asked ∷ front) first answer went is =
@@ -99,12 +100,12 @@ module _ (told : Told) (all : List Command) where
     abbrev state : RunState
     state = (run_of told front).last
 
-    here : (answer : Answer) → All HasTake (effect_of answer state first).events
+    here : (answer : ImageAnswer) → All HasTake (effect_of answer state first).events
     here answer =
         All-weaker (λ (event : Event). is_take_line event ≡ true → IsTakeOfLink state (line_of first) event ⊎ IsTakeOfCore state (line_of first) event) HasTake
         (λ event has is. record { done = front; next = first; more = more; parts = parts; take = has is }) (effect_of answer state first).events (every_line told front fits answer first may)
 
-    told_lines : (found : Option Answer) (later : RunState → Run) → ((answer : Answer) → found ≡ Some answer → (effect_of answer state first).ending ≡ None → All HasTake (later (effect_of answer state first).run).events)
+    told_lines : (found : Option ImageAnswer) (later : RunState → Run) → ((answer : ImageAnswer) → found ≡ Some answer → (effect_of answer state first).ending ≡ None → All HasTake (later (effect_of answer state first).run).events)
         → All HasTake (run_told state first found later).events
     told_lines None later rest = All-nil HasTake
     told_lines (Some answer) later rest =

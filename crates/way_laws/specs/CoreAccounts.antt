@@ -1,5 +1,6 @@
 -- The accounts of the links of a run's cores: what each command adds to them (own).
 use Rattle.std.specs.Prelude.{ℕ, zero, suc, ◌&&◌, Bool, List, [], ◌++◌, slice_get, Option, Some, None, is_none, option_and_then, option_map, Result, Ok, Err, if◌then◌else◌}
+use Rattle.rp_io.specs.Images.{ImageAnswer}
 use Rattle.rp_base.specs.declared.kinds.End.{End}
 use Rattle.proc_state.specs.Lives.{is_up}
 use Rattle.lane_laws.specs.Handings.{Handing}
@@ -8,8 +9,8 @@ use Rattle.script_lang.specs.declared.recipes.RecipeLine.{RecipeLine}
 use Rattle.link_bench.specs.declared.acts.LinkAct.{LinkAct}
 use Rattle.link_bench.specs.Benches.{BenchState, link_in}
 use Rattle.crash_recover.specs.declared.core_answers.Start.{Start}
-use Rattle.crash_recover.specs.declared.core_faults.CoreFault.{CoreFault}
-use Rattle.crash_recover.specs.CoreBoots.{Found, boot_of, load_in}
+use Rattle.crash_recover.specs.declared.core_faults.StartFault.{StartFault}
+use Rattle.crash_recover.specs.CoreBoots.{boot_of, load_in}
 use Rattle.crash_recover.specs.CoreCrashes.{report_of}
 use Rattle.crash_recover.specs.CoreLeaves.{detach_of, shutdown_of}
 use Rattle.crash_recover.specs.CoreRecoveries.{after_recovery, recovery_fault, reload_fault, reopen_fault}
@@ -29,7 +30,7 @@ use Rattle.command_run.specs.CoreLives.{booted_image, found_image, may_step}
 use Rattle.command_run.specs.NamedCores.{NamedCoreState}
 use Rattle.command_run.specs.NamedImages.{ImageState}
 use Rattle.command_run.specs.Runs.{RunState, core_place, new_run, place_of}
-use Rattle.command_run.specs.Stores.{Answer, Told}
+use Rattle.command_run.specs.Stores.{Told}
 use Rattle.run_laws.specs.Drives.{drive_made}
 use Rattle.act_laws.specs.Accounts.{Account, new_account, with_deeds}
 use Rattle.act_laws.specs.CoreDeeds.{drive_deeds, ready_deeds, reported_deeds}
@@ -52,7 +53,7 @@ unless_some None refused done = done
 unless_some (Some why) refused done = refused
 
 -- behind a boot that left this link: a life that begins has a new one
-abbrev pub started_account : Option BenchState → Result Start CoreFault → Option Account → Option Account
+abbrev pub started_account : Option BenchState → Result Start StartFault → Option Account → Option Account
 started_account left (Ok came) account = if begins_life came then begun_account left else account
 started_account left (Err why) account = account
 
@@ -67,7 +68,7 @@ ready_if None = no_deeds
 ready_if (Some bench) = ready_deeds bench
 
 -- behind a recovery: a refusal of its life or of its image leaves the link as it is; caller 0 is made anew before the link is reopened, which may be refused
-abbrev pub recovery_account : End → CoreState → Found → Option Account → Option Account
+abbrev pub recovery_account : End → CoreState → ImageAnswer → Option Account → Option Account
 recovery_account end on found account =
     unless_some (recovery_fault on.life) account (unless_some (reload_fault on found) account
     (unless_some (reopen_fault on) (deed_account end on.bench (ready_if on.bench) account) (begun_account (after_recovery on (load_in on found)).bench)))
@@ -91,7 +92,7 @@ abbrev pub drive_takes : ℕ → CoreState → ℕ → End → List Handing
 drive_takes count on steps = steps_takes (drive_made count on steps) on
 
 -- behind an act on a core
-abbrev pub life_account : End → List ImageState → Answer → NamedCoreState → ℕ → CoreAct → Option Account → Option Account
+abbrev pub life_account : End → List ImageState → ImageAnswer → NamedCoreState → ℕ → CoreAct → Option Account → Option Account
 life_account end images answer on steps (core.Start (starts.Boot image)) account =
     let booted = boot_of on.core image (found_image images answer image) in started_account booted.core.bench booted.answer account
 life_account end images answer on steps (core.Start (starts.Handover image)) account = account
@@ -111,7 +112,7 @@ core_act_deeds on None steps asked = no_deeds
 core_act_deeds on (Some bench) steps asked = act_deeds actors_after_end 2 bench on.actors steps asked
 
 -- behind what is done under the name of a core
-abbrev pub core_account_after : End → List ImageState → Answer → NamedCoreState → ℕ → NamedAct (List ℕ) → Option Account → Option Account
+abbrev pub core_account_after : End → List ImageState → ImageAnswer → NamedCoreState → ℕ → NamedAct (List ℕ) → Option Account → Option Account
 core_account_after end images answer on steps (under.Make made) account = account
 core_account_after end images answer on steps (under.Link asked) account = deed_account end on.core.bench (core_act_deeds on.core on.core.bench steps asked) account
 core_account_after end images answer on steps (under.Manage managed) account = account
@@ -130,12 +131,12 @@ done_on_core run place (line.Dump name image) = None
 done_on_core run place (line.On name wanted) = if is_unlinked run name && is_place (core_place run.objects.cores name) place then Some wanted else None
 
 -- the account of the link of a core behind what is done on it, if anything is
-abbrev pub core_account_behind : End → List ImageState → Answer → NamedCoreState → ℕ → Option (NamedAct (List ℕ)) → Option Account → Option Account
+abbrev pub core_account_behind : End → List ImageState → ImageAnswer → NamedCoreState → ℕ → Option (NamedAct (List ℕ)) → Option Account → Option Account
 core_account_behind end images answer on steps None account = account
 core_account_behind end images answer on steps (Some wanted) account = core_account_after end images answer on steps wanted account
 
 -- the account of the link of the core at a place behind a command; a core is made without a link
-abbrev pub next_core_account : End → ℕ → Answer → RunState → Line (List RecipeLine) (List ℕ) → Option NamedCoreState → Option Account → Option Account
+abbrev pub next_core_account : End → ℕ → ImageAnswer → RunState → Line (List RecipeLine) (List ℕ) → Option NamedCoreState → Option Account → Option Account
 next_core_account end place answer before done (Some on) account =
     core_account_behind end before.objects.images answer on before.steps (done_on_core before place done) account
 next_core_account end place answer before done None account = None

@@ -1,13 +1,14 @@
 -- What is noted beside a run, command by command (own).
 use Rattle.std.specs.Prelude.{List, [], ◌∷◌, Option, Some, None}
+use Rattle.rp_io.specs.Images.{ImageAnswer}
 use Rattle.script_lang.specs.declared.commands.Command.{Command}
 use Rattle.link_commands.specs.declared.stops.Stop.{Stop}
 use Rattle.command_run.specs.Runs.{RunState, asked_name, effect_of}
-use Rattle.command_run.specs.Stores.{Answer, Told, later_told, told_answer}
+use Rattle.command_run.specs.Stores.{Told, later_told, told_answer}
 
 -- what a command adds to a note: what the store tells it, the run before it, the command, the run that it left
 abbrev pub Noting : Type 0 → Type 0
-Noting A = Answer → RunState → Command → RunState → A → A
+Noting A = ImageAnswer → RunState → Command → RunState → A → A
 
 -- the run stops with a command, or the later ones go on
 abbrev pub notes_on : {A : Type 0} → Option Stop → A → A → A
@@ -15,7 +16,7 @@ notes_on (Some why) noted later = noted
 notes_on None noted later = later
 
 -- a command and the later ones, where the store answers; else the run ends before the command
-abbrev pub notes_of_command : {A : Type 0} → Noting A → RunState → Command → Option Answer → A → (RunState → A → A) → A
+abbrev pub notes_of_command : {A : Type 0} → Noting A → RunState → Command → Option ImageAnswer → A → (RunState → A → A) → A
 notes_of_command note run command None noted later = noted
 notes_of_command note run command (Some answer) noted later =
     let effect = effect_of answer run command in

@@ -1,6 +1,7 @@
 //! Laws of what runs do on their links and tell of takes. Each is the contract of an empty function, and speaks of definitions alone.
 
 ghost use Rattle.std.specs.Prelude.{◌≡◌, ◌++◌, ℕ, Bool, true, false, List, Option, Some, None, option_map, IfSome, IsSomeAnd, slice_get, All, [], ◌∷◌};
+ghost use Rattle.rp_io.specs.Images.{ImageAnswer};
 ghost use Rattle.rp_base.specs.declared.kinds.End.{End};
 ghost use Rattle.rp_base.specs.declared.kinds.Verdict.{Verdict};
 ghost use Rattle.lane_model.specs.declared.calls.CallEnd.TheVariants as call_end;
@@ -31,7 +32,7 @@ ghost use Rattle.command_run.specs.NamedCores.{NamedCoreState};
 ghost use Rattle.link_commands.specs.NamedLinks.{NamedLink};
 ghost use Rattle.command_run.specs.CoreDrives.{step_events};
 ghost use Rattle.command_run.specs.Runs.{RunState, core_place, effect_of, place_of, run_of};
-ghost use Rattle.command_run.specs.Stores.{Answer, Told};
+ghost use Rattle.command_run.specs.Stores.{Told};
 ghost use Rattle.link_commands.specs.declared.acts.CoreAct.TheVariants as core;
 ghost use Rattle.link_commands.specs.declared.acts.Line.TheVariants as line;
 ghost use Rattle.link_commands.specs.declared.acts.NamedAct.{NamedAct};
@@ -108,17 +109,17 @@ pub fn takes_are_worded()
 /// of a run tells is that of a handing which the command tells at an end of a link of the run, or of the link of a core. And so each line of
 /// a take in a whole run is that of a handing which the command that is next behind others tells so.
 pub fn lines_have_takes()
-    ensures link { (told : Told) (commands : List Command) (answer : Answer) (asked : Command) (place : ℕ) (wanted : NamedAct (List ℕ)) (on : NamedLink)
+    ensures link { (told : Told) (commands : List Command) (answer : ImageAnswer) (asked : Command) (place : ℕ) (wanted : NamedAct (List ℕ)) (on : NamedLink)
         → AreRunnable commands → IsRunnable asked
         → let run = (run_of told commands).last in
         slice_get run.objects.links place ≡ Some on → done_at run place (line_of asked) ≡ Some wanted
         → AreLinesOfTakes (named_takes on.bench run.steps wanted) on.name (effect_of answer run asked).events }
-    ensures of_core { (told : Told) (commands : List Command) (answer : Answer) (asked : Command) (place : ℕ) (act : LinkAct (List ℕ)) (on : NamedCoreState)
+    ensures of_core { (told : Told) (commands : List Command) (answer : ImageAnswer) (asked : Command) (place : ℕ) (act : LinkAct (List ℕ)) (on : NamedCoreState)
         → AreRunnable commands → IsRunnable asked
         → let run = (run_of told commands).last in
         slice_get run.objects.cores place ≡ Some on → done_on_core run place (line_of asked) ≡ Some (under.Link act)
         → AreLinesOfTakes (core_act_deeds on.core on.core.bench run.steps act).takes on.name (effect_of answer run asked).events }
-    ensures drive { (told : Told) (commands : List Command) (answer : Answer) (asked : Command) (place count : ℕ) (on : NamedCoreState)
+    ensures drive { (told : Told) (commands : List Command) (answer : ImageAnswer) (asked : Command) (place count : ℕ) (on : NamedCoreState)
         → AreRunnable commands → IsRunnable asked
         → let run = (run_of told commands).last in
         slice_get run.objects.cores place ≡ Some on → done_on_core run place (line_of asked) ≡ Some (under.Core (core.Drive count))
@@ -129,15 +130,15 @@ pub fn lines_have_takes()
     ensures drive_adds { (end : End) (count : ℕ) (core : CoreState) (steps : ℕ) (account : Option Account)
         → option_map (λ (now : Account). now.told) (drive_account end count core steps account)
         ≡ option_map (λ (now : Account). now.told ++ drive_takes count core steps end) account }
-    ensures named_core { (told : Told) (commands : List Command) (answer : Answer) (asked : Command) (place : ℕ) (wanted : NamedAct (List ℕ)) (on : NamedCoreState)
+    ensures named_core { (told : Told) (commands : List Command) (answer : ImageAnswer) (asked : Command) (place : ℕ) (wanted : NamedAct (List ℕ)) (on : NamedCoreState)
         → AreRunnable commands → IsRunnable asked
         → let run = (run_of told commands).last in
         slice_get run.objects.cores place ≡ Some on → done_on_core run place (line_of asked) ≡ Some wanted
         → AreLinesAmong (core_takes on run.steps wanted) on.name (effect_of answer run asked).events }
-    ensures others { (answer : Answer) (run : RunState) (asked : Command) → line_may_take (line_of asked) ≡ false → TellNoTakes (effect_of answer run asked).events }
-    ensures nameless { (answer : Answer) (run : RunState) (asked : Command) (name : List ℕ) (wanted : NamedAct (List ℕ)) → line_of asked ≡ line.On name wanted
+    ensures others { (answer : ImageAnswer) (run : RunState) (asked : Command) → line_may_take (line_of asked) ≡ false → TellNoTakes (effect_of answer run asked).events }
+    ensures nameless { (answer : ImageAnswer) (run : RunState) (asked : Command) (name : List ℕ) (wanted : NamedAct (List ℕ)) → line_of asked ≡ line.On name wanted
         → place_of run.objects.links name ≡ None → core_place run.objects.cores name ≡ None → TellNoTakes (effect_of answer run asked).events }
-    ensures every { (told : Told) (commands : List Command) (answer : Answer) (asked : Command) → AreRunnable commands → IsRunnable asked
+    ensures every { (told : Told) (commands : List Command) (answer : ImageAnswer) (asked : Command) → AreRunnable commands → IsRunnable asked
         → let run = (run_of told commands).last in AreTakesOfRun run (line_of asked) (effect_of answer run asked).events }
     ensures whole { (told : Told) (commands : List Command) → AreRunnable commands
         → All (λ (event : Event). is_take_line event ≡ true → IsTakeInRun told commands event) (run_of told commands).events }

@@ -3,8 +3,9 @@ use Rattle.std.specs.Prelude.{OnOk}
 use Rattle.std.specs.Result.{result_map_both}
 use Rattle.std.proofs.lemmas.Option.{none-some, same_Some}
 use Rattle.std.proofs.lemmas.Result.{err_from_is_err_and}
+use Rattle.rp_io.specs.Images.{IsToldFor}
 use Rattle.journal.specs.Lines.{transcript}
-use Rattle.rp_io.specs.declared.faults.FetchFault.TheVariants as fetch_fault
+use Rattle.rp_io.specs.declared.faults.NoImage.TheVariants as no_image
 use Rattle.script_lang.specs.declared.commands.Command.{Command}
 use Rattle.script_lang.specs.declared.recipes.RecipeLine.{RecipeLine}
 use Rattle.link_commands.specs.Acts.{line_of}
@@ -21,7 +22,7 @@ use Rattle.link_commands.specs.declared.stops.Stop.{Stop}
 use Rattle.link_commands.specs.Logs.{LogState}
 use Rattle.command_run.specs.Outcomes.{CutsRun, HandsRunEffect}
 use Rattle.command_run.specs.Faults.{output_command_fault}
-use Rattle.command_run.specs.Fetches.{EndsCut, IfSinkFailed, IsToldFor, KeepsDrive, KeepsDriven, RunsTold, drive_line}
+use Rattle.command_run.specs.Fetches.{EndsCut, IfSinkFailed, KeepsDrive, KeepsDriven, RunsTold, drive_line}
 use Rattle.command_run.specs.Runs.{ObjectsState, RunEffect, RunState, act_asks, asked_name, core_act, effect_of, name_effect}
 use Rattle.command_run.specs.Stores.{Shelf, answer_for}
 use Rattle.command_run.proofs.Shelves.{shelf_of}
@@ -33,19 +34,19 @@ module _ (run : RunState) (asking : Command) (name : List ℕ) (count : ℕ) (dr
   asks_nothing : asked_name run.objects asking ≡ None
   asks_nothing = ap (act_asks run.objects) drives
 
-  drive_whole : (shelf : Shelf) → effect_of (answer_for shelf (asked_name run.objects asking)) run asking ≡ name_effect (Err fetch_fault.Missing) run name (under.Core (core.Drive count))
+  drive_whole : (shelf : Shelf) → effect_of (answer_for shelf (asked_name run.objects asking)) run asking ≡ name_effect (Err no_image.Missing) run name (under.Core (core.Drive count))
   drive_whole shelf =
-      ap (λ (asked : Option (List ℕ)). effect_of (answer_for shelf asked) run asking) asks_nothing ∙ core_line (Err fetch_fault.Missing) run asking name (core.Drive count) drives
+      ap (λ (asked : Option (List ℕ)). effect_of (answer_for shelf asked) run asking) asks_nothing ∙ core_line (Err no_image.Missing) run asking name (core.Drive count) drives
 
   -- so it does the same whatever the store has
   drive_told : (images : Option (List (List ℕ × List ℕ))) (left : ObjectsState) (before after : LogState) (old new : Option (List ℕ)) (faults now was : ℕ) (result : Result (Option Stop) OutputFault)
-      → IfOk result (λ ending. HandsRunEffect (name_effect (Err fetch_fault.Missing) run name (under.Core (core.Drive count))) left before after old new ending) → OnOk result (now ≡ faults)
-      → IfErr result (λ why. EndsCut why (before.lines ++ transcript (name_effect (Err fetch_fault.Missing) run name (under.Core (core.Drive count))).events) old new faults now)
-      → IfErr result (λ why. IfSinkFailed why (CutsRun (λ done. name_effect (Err fetch_fault.Missing) run name (under.Core (core.Drive done))) count left before.lines old new))
+      → IfOk result (λ ending. HandsRunEffect (name_effect (Err no_image.Missing) run name (under.Core (core.Drive count))) left before after old new ending) → OnOk result (now ≡ faults)
+      → IfErr result (λ why. EndsCut why (before.lines ++ transcript (name_effect (Err no_image.Missing) run name (under.Core (core.Drive count))).events) old new faults now)
+      → IfErr result (λ why. IfSinkFailed why (CutsRun (λ done. name_effect (Err no_image.Missing) run name (under.Core (core.Drive done))) count left before.lines old new))
       → RunsTold (result_map_both (λ ending. ending) output_command_fault result) images run asking left before after old new faults now was was
   drive_told images left before after old new faults now was (Ok answer) did same cut paused =
-      let shelf = shelf_of images (asked_name run.objects asking) (Err fetch_fault.Missing)
-      (subst (λ (asked : Option (List ℕ)). IsToldFor images asked (Err fetch_fault.Missing)) (sym asks_nothing) refl) in
+      let shelf = shelf_of images (asked_name run.objects asking) (Err no_image.Missing)
+      (subst (λ (asked : Option (List ℕ)). IsToldFor images asked (Err no_image.Missing)) (sym asks_nothing) refl) in
       (record { shelf = shelf.0; is = shelf.1; did = subst (λ (e : RunEffect). HandsRunEffect e left before after old new answer) (sym (drive_whole shelf.0)) did }, same, refl)
   drive_told images left before after old new faults now was (Err output_fault.Failed) did same cut paused = (
     (λ shelf. subst (λ (e : RunEffect). EndsCut output_fault.Failed (before.lines ++ transcript e.events) old new faults now) (sym (drive_whole shelf)) cut),
@@ -170,8 +171,8 @@ returns-in_ok-run-in_default g c =
     let none : asked_name objects asked ≡ None = ap (act_asks objects) (sym c.in-Some.ensures) ∙ no_start objects found.0 found.1 c.in_default.not-Start in
     record {
       effect = (
-        told_run held run asked c.run.new.self log c.run.new.log (g.K.Sink.written c.args.out.now) told.field-0 (Err fetch_fault.Missing)
-            (subst (λ (name : Option (List ℕ)). IsToldFor held name (Err fetch_fault.Missing)) (sym none) refl) told.ensures,
+        told_run held run asked c.run.new.self log c.run.new.log (g.K.Sink.written c.args.out.now) told.field-0 (Err no_image.Missing)
+            (subst (λ (name : Option (List ℕ)). IsToldFor held name (Err no_image.Missing)) (sym none) refl) told.ensures,
         refl,
         refl,
       );
@@ -192,8 +193,8 @@ returns-in_ok-run-in-None g c =
     let none : asked_name objects asked ≡ None = ap (act_asks objects) (sym c.in-None.ensures) in
     record {
       effect = (
-        told_run held run asked c.run-in-None.new.self log c.run-in-None.new.log (g.K.Sink.written c.args.out.now) told.field-0 (Err fetch_fault.Missing)
-            (subst (λ (name : Option (List ℕ)). IsToldFor held name (Err fetch_fault.Missing)) (sym none) refl) told.ensures,
+        told_run held run asked c.run-in-None.new.self log c.run-in-None.new.log (g.K.Sink.written c.args.out.now) told.field-0 (Err no_image.Missing)
+            (subst (λ (name : Option (List ℕ)). IsToldFor held name (Err no_image.Missing)) (sym none) refl) told.ensures,
         refl,
         refl,
       );

@@ -1,7 +1,7 @@
 use Rattle.std.proofs.Common.{◌≡◌, ◌<◌, ℕ, List, Some, None, Err, IfOk, length, slice_get, slice_set, refl, ap, subst, ◌∙◌}
 use Rattle.std.proofs.lemmas.Option.{slice_get_read}
 use Rattle.std.proofs.lemmas.Result.{IfOk-weaker}
-use Rattle.rp_io.specs.declared.faults.FetchFault.TheVariants as fetch_fault
+use Rattle.rp_io.specs.declared.faults.NoImage.TheVariants as no_image
 use Rattle.link_commands.specs.declared.acts.NamedAct.{NamedAct}
 use Rattle.link_commands.specs.NamedLinks.{NamedLink}
 use Rattle.link_commands.specs.LinkCommands.{link_effect}
@@ -29,13 +29,13 @@ returns-in-Some c =
     let is_quiet = c.self.inside.is_quiet in
     let run : RunState = record { objects = record { links = items; cores = c.self.inside.cores.items; images = images; is_quiet = is_quiet }; steps = c.args.log.now.steps } in
     subst (λ (objects : ObjectsState). IfOk c.run.result (λ ending.
-    HasRunEffect (name_effect (Err fetch_fault.Missing) (record { objects = objects; steps = c.args.log.now.steps }) c.args.name (bare_named_act (λ bytes. bytes.now) c.args.act.now)) (record { links = slice_set items place c.run.new.self; cores = c.self.inside.cores.items; images = images; is_quiet = is_quiet })
+    HasRunEffect (name_effect (Err no_image.Missing) (record { objects = objects; steps = c.args.log.now.steps }) c.args.name (bare_named_act (λ bytes. bytes.now) c.args.act.now)) (record { links = slice_set items place c.run.new.self; cores = c.self.inside.cores.items; images = images; is_quiet = is_quiet })
     c.args.log.now c.run.new.log ending))
     c.self.view_is
     (IfOk-weaker c.run.result
     (λ ending. HasEffect (link_effect named c.args.log.now.steps (bare_named_act (λ bytes. bytes.now) c.args.act.now)) c.run.new.self.bench c.args.log.now c.run.new.log ending)
-    (λ ending. HasRunEffect (name_effect (Err fetch_fault.Missing) run c.args.name (bare_named_act (λ bytes. bytes.now) c.args.act.now)) (record { links = slice_set items place c.run.new.self; cores = c.self.inside.cores.items; images = images; is_quiet = is_quiet }) c.args.log.now c.run.new.log ending)
-    (λ ending did. placed_run (Err fetch_fault.Missing) run c.args.name (bare_named_act (λ bytes. bytes.now) c.args.act.now) c.args.log.now c.run.new.log ending place named c.run.new.self placed found c.run.ensures.name did)
+    (λ ending. HasRunEffect (name_effect (Err no_image.Missing) run c.args.name (bare_named_act (λ bytes. bytes.now) c.args.act.now)) (record { links = slice_set items place c.run.new.self; cores = c.self.inside.cores.items; images = images; is_quiet = is_quiet }) c.args.log.now c.run.new.log ending)
+    (λ ending did. placed_run (Err no_image.Missing) run c.args.name (bare_named_act (λ bytes. bytes.now) c.args.act.now) c.args.log.now c.run.new.log ending place named c.run.new.self placed found c.run.ensures.name did)
     c.run.ensures.effect)
 
 pub returns-in-Some-core_place : goal.returns-in-Some-core_place
@@ -60,14 +60,14 @@ returns-in-Some-core_place c =
     let run : RunState = record { objects = record { links = links; cores = items; images = images; is_quiet = is_quiet }; steps = log.steps } in
     let left : ObjectsState = record { links = links; cores = slice_set items place ran.new.self; images = images; is_quiet = is_quiet } in
     subst (λ (objects : ObjectsState). IfOk ran.result (λ ending.
-    HasRunEffect (name_effect (Err fetch_fault.Missing) (record { objects = objects; steps = log.steps }) c.args.name act) left log ran.new.log ending))
+    HasRunEffect (name_effect (Err no_image.Missing) (record { objects = objects; steps = log.steps }) c.args.name act) left log ran.new.log ending))
     c.self.view_is
     (IfOk-weaker ran.result
-    (λ ending. HasCoreEffect (core_effect images (Err fetch_fault.Missing) is_quiet named log.steps act) ran.new.self.core log ran.new.log ending)
-    (λ ending. HasRunEffect (name_effect (Err fetch_fault.Missing) run c.args.name act) left log ran.new.log ending)
-    (λ ending did. unnamed_run (Err fetch_fault.Missing) run c.args.name act log ran.new.log ending left none
-    (core_run (Err fetch_fault.Missing) run c.args.name act log ran.new.log ending place named ran.new.self placed found ran.ensures.name did))
-    (subst (λ (made : List ImageState). IfOk ran.result (λ ending. HasCoreEffect (core_effect made (Err fetch_fault.Missing) is_quiet named log.steps act) ran.new.self.core log ran.new.log ending))
+    (λ ending. HasCoreEffect (core_effect images (Err no_image.Missing) is_quiet named log.steps act) ran.new.self.core log ran.new.log ending)
+    (λ ending. HasRunEffect (name_effect (Err no_image.Missing) run c.args.name act) left log ran.new.log ending)
+    (λ ending did. unnamed_run (Err no_image.Missing) run c.args.name act log ran.new.log ending left none
+    (core_run (Err no_image.Missing) run c.args.name act log ran.new.log ending place named ran.new.self placed found ran.ensures.name did))
+    (subst (λ (made : List ImageState). IfOk ran.result (λ ending. HasCoreEffect (core_effect made (Err no_image.Missing) is_quiet named log.steps act) ran.new.self.core log ran.new.log ending))
     c.as_slice-images.ensures.value ran.ensures.effect))
 
 pub returns-in-None-core_place : goal.returns-in-None-core_place
@@ -85,7 +85,7 @@ returns-in-None-core_place c =
     ∙ ap (core_place objects.cores) c.bytes-in-None.ensures.bytes in
     IfOk-weaker c.run_on_new_name.result
     (λ ending. HasRunEffect (unnamed_effect run c.args.name act) c.run_on_new_name.new.self c.args.log.now c.run_on_new_name.new.log ending)
-    (λ ending. HasRunEffect (name_effect (Err fetch_fault.Missing) run c.args.name act) c.run_on_new_name.new.self c.args.log.now c.run_on_new_name.new.log ending)
-    (λ ending did. unnamed_run (Err fetch_fault.Missing) run c.args.name act c.args.log.now c.run_on_new_name.new.log ending c.run_on_new_name.new.self none
-    (nameless_run (Err fetch_fault.Missing) run c.args.name act c.args.log.now c.run_on_new_name.new.log ending c.run_on_new_name.new.self nobody did))
+    (λ ending. HasRunEffect (name_effect (Err no_image.Missing) run c.args.name act) c.run_on_new_name.new.self c.args.log.now c.run_on_new_name.new.log ending)
+    (λ ending did. unnamed_run (Err no_image.Missing) run c.args.name act c.args.log.now c.run_on_new_name.new.log ending c.run_on_new_name.new.self none
+    (nameless_run (Err no_image.Missing) run c.args.name act c.args.log.now c.run_on_new_name.new.log ending c.run_on_new_name.new.self nobody did))
     c.run_on_new_name.ensures

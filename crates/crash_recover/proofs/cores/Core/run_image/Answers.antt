@@ -12,13 +12,13 @@ pub invariant_of-self : goal.invariant_of-self
 invariant_of-self c =
     let core = c.args.self.now in
     let life = c.args.life in
-    let rings = c.in_ok-loaded.loaded.rings in
+    let rings = c.args.loaded.rings in
     let names = driver_names core.actors in
     let fresh : ActorsState = fresh_actors core.actors 0 in
     let made = sym (c.in_ok-bench.ensures ∙ ap (λ (inc : ℕ). option_map (core_bench names core.book inc) rings) c.incarnation-inc.ensures) in
     record {
       book = c.self.invariant.book;
-      loaded = subst (λ (core : CoreState). IsSoundLoad core.regions c.in_ok-loaded.loaded) (sym c.self.view_is) c.in_ok-loaded.ensures.sound;
+      loaded = subst (λ (core : CoreState). IsSoundLoad core.regions c.args.loaded) (sym c.self.view_is) c.requires.sound;
       has_image = sym (ap not c.requires.loaded);
       has_load = sym (ap not c.requires.loaded);
       unlinked = λ none. absurd (omega (arith, c.requires.users, none));
