@@ -29,7 +29,8 @@ impl Core {
     /// Boots the core with the image that a store has under a name: [`Core::begin_boot`], and
     /// [`Core::boot_image`] where that needs an image. The store is only asked then.
     ///
-    /// Errors: those of both. The core is as it was then.
+    /// Errors: the refusals of both, [`CoreFault::Fetch`] also where the store failed, and
+    /// [`CoreFault::NoMemory`]. The core is as it was then.
     pub fn boot<F: FirmwareStore>(
         &mut self,
         alloc: Global,
@@ -209,7 +210,8 @@ impl Core {
     /// Hands the core over with the image that a store has under a name: [`Core::handover_life`] and
     /// [`Core::handover_image`]. The store is only asked where the core is offline.
     ///
-    /// Errors: those of both. The core is as it was then.
+    /// Errors: the refusals of both, [`CoreFault::Fetch`] also where the store failed, and
+    /// [`CoreFault::NoMemory`]. The core is as it was then.
     pub fn handover<F: FirmwareStore>(
         &mut self,
         alloc: Global,

@@ -41,8 +41,9 @@ impl Core {
     /// Recovers the core with the image that a store has under the name that was booted or handed over.
     /// Where the core's life refuses it, the store is not asked.
     ///
-    /// Errors: [`CoreFault::Life`] as [`Core::recovery_fault`] answers, then those of
-    /// [`Core::recover_image`]. A name that is no text is [`rp_io::FetchFault::Missing`].
+    /// Errors: [`CoreFault::Life`] as [`Core::recovery_fault`] answers, [`CoreFault::Fetch`] where the
+    /// store has no image or failed, then the refusals of [`Core::recover_image`], and
+    /// [`CoreFault::NoMemory`]. A name that is no text is [`rp_io::FetchFault::Missing`].
     pub fn recover<F: FirmwareStore>(
         &mut self,
         alloc: Global,
