@@ -3,7 +3,7 @@ ghost use Rattle.crash_recover.specs.CoreBoots.{power_of};
 ghost use Rattle.crash_recover.specs.CoreCrashes.{report_in_short};
 ghost use Rattle.crash_recover.specs.CoreLeaves.{leave_in_short};
 
-use crate::core_faults::{CoreFault, StartFault};
+use crate::core_faults::StartFault;
 use proc_state::{Left, Life, Power, Report};
 use rp_base::Inc;
 

@@ -162,6 +162,7 @@ impl Core {
         ensures left { IfOk result (λ answer. OnOk answer (self.new ≡ after_recovery self.old (load_view loaded))) }
         ensures ready { IfOk result (λ answer. OnErr answer (self.new ≡ core_to_reopen self.old)) }
         ensures memory { OnErr result (self.new ≡ core_to_reopen self.old) }
+        ensures last { OnErr result (reopen_fault self.old ≡ None) }
     {
         let is_spent = self.life.incarnation() == Inc::MAX;
         if let Some(fault) = reopen_link(&mut self.bench, alloc, is_spent)? {
@@ -194,6 +195,7 @@ fn reopen_link(
     ensures left { IfOk result (λ refused. IfNone refused (link.new ≡ option_map (λ bench. after_reopen (bench_to_reopen bench)) link.old)) }
     ensures ready { IfOk result (λ refused. IfSome refused (λ _. link.new ≡ option_map bench_to_reopen link.old)) }
     ensures memory { OnErr result (link.new ≡ option_map bench_to_reopen link.old) }
+    ensures last { OnErr result (fault_with link.old is_spent ≡ None) }
 {
     match link {
         Some(bench) => reopen_bench(bench, alloc, is_spent),
@@ -211,6 +213,7 @@ fn reopen_bench(
     ensures left { IfOk result (λ refused. IfNone refused (bench.new ≡ after_reopen (bench_to_reopen bench.old))) }
     ensures ready { IfOk result (λ refused. IfSome refused (λ _. bench.new ≡ bench_to_reopen bench.old)) }
     ensures memory { OnErr result (bench.new ≡ bench_to_reopen bench.old) }
+    ensures last { OnErr result (link_fault bench.old is_spent ≡ None) }
 {
     if let Some(fault) = bench.renew_host() {
         return Ok(Some(StartFault::Reopen(fault)));
