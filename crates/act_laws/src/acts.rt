@@ -15,6 +15,7 @@ ghost use Rattle.link_bench.specs.Benches.{BenchState, LinkRings, call_steps, la
 ghost use Rattle.link_bench.specs.Watchers.{nobody_sees};
 ghost use Rattle.lane_laws.specs.Moves.{Close};
 ghost use Rattle.core_actors.specs.Actors.{ActorsState};
+ghost use Rattle.crash_recover.specs.declared.core_acts.TheConstants.{OWN_CALLERS};
 ghost use Rattle.crash_recover.specs.Cores.{CoreState};
 ghost use Rattle.core_actors.specs.ActorEnds.{actors_after_end};
 ghost use Rattle.crash_recover.specs.Drives.{drive_step};
@@ -31,7 +32,7 @@ pub fn acts_do()
     ensures link { (bench : BenchState) (steps : ℕ) (asked : LinkAct (List ℕ)) → IsFitAct asked → IsReachedBench bench
         → AreDone bench (act_deeds nobody_sees 0 bench tt steps asked) (link_act nobody_sees 0 bench tt steps asked).bench }
     ensures core { (bench : BenchState) (actors : ActorsState) (steps : ℕ) (asked : LinkAct (List ℕ)) → IsFitAct asked → IsReachedBench bench
-        → AreDone bench (act_deeds actors_after_end 2 bench actors steps asked) (link_act actors_after_end 2 bench actors steps asked).bench }
+        → AreDone bench (act_deeds actors_after_end OWN_CALLERS bench actors steps asked) (link_act actors_after_end OWN_CALLERS bench actors steps asked).bench }
     ensures close { (bench : BenchState) → AreDone bench (one_move (Close (link_in bench).era.inc)) (after_close bench) }
 {}
 

@@ -1,7 +1,7 @@
 -- An end keeps the laws of a desk.
-use Rattle.std.specs.Prelude.{◌≡◌, ◌≢◌, ◌⊎◌, ℕ, ◌+◌, ◌≤◌, Bool, true, false, cond, ◌&&◌, not, eqb, List, Option, Some, None, Result, Ok, Err, refl}
+use Rattle.std.specs.Prelude.{◌≡◌, ◌≢◌, ◌⊎◌, ℕ, ◌+◌, Bool, true, false, cond, ◌&&◌, not, eqb, List, [], ◌∷◌, find, Option, Some, None, is_some, Result, Ok, Err, refl}
 use Rattle.std.specs.Option.{option_map, option_and_then}
-use Rattle.std.proofs.Common.{ap, sym, ◌∙◌, subst, inl, inr, arith}
+use Rattle.std.proofs.Common.{ap, sym, ◌∙◌, subst, inl, inr}
 use Rattle.std.proofs.lemmas.Bool.{eqb-true, eqb-false}
 use Rattle.rp_base.specs.declared.kinds.Endpoint.{Endpoint}
 use Rattle.rp_base.specs.declared.kinds.BoundEndpoint.{BoundEndpoint}
@@ -14,20 +14,12 @@ use Rattle.rp_base.specs.declared.kinds.NsKind.TheVariants.{Created, Duplicate, 
 use Rattle.rpmsg_header.specs.Headers.{is_whole, destination_of, payload_of}
 use Rattle.rpmsg_header.specs.Services.{service_of}
 use Rattle.rpmsg_header.specs.declared.services.NsMessage.{NsMessage}
-use Rattle.lane_model.specs.Desks.{IsBound, KeepsBound, AreDeskLaws}
-use Rattle.endpoint_map.specs.Bindings.{Bindings, any_address, bound_at, bind_answer, after_bind, after_unbind, BindsOne}
+use Rattle.lane_model.specs.Desks.{IsBound, KeepsEndpoints, AddsAtMostOne, RemovesAtMostOne, KeepsAim, AreDeskLaws}
+use Rattle.endpoint_map.specs.Bindings.{Bindings, any_address, is_at, bound_at, bind_answer, after_bind, after_unbind, UnbindsOne}
 use Rattle.endpoint_map.proofs.Lookups.{binding, refused, unbinding}
+use Rattle.name_service.specs.declared.channels.Channel.{Channel}
 use Rattle.name_service.specs.Channels.{kind_of}
-use Rattle.channel_bus.specs.Sides.{EndState, is_service, is_probed, endpoint_of_channel, without_endpoint, bindings_after_service, service_verdict, after_service, endpoint_verdict, after_message, aim_of, side_bind_answer, after_side_bind, side_meaning}
-
--- who is bound after a change of the endpoints was bound before, or is new
-record KeepsBindings (before after : Bindings) (handed : ℕ) : Type 0 where
-  counts : before.count ≤ after.count
-  bound : (one : BoundEndpoint) → bound_at after one.endpoint.address ≡ Some one
-      → (bound_at before one.endpoint.address ≡ Some one) ⊎ ((one.since ≡ handed) × (one.endpoint.generation ≡ before.count + 1) × (after.count ≡ before.count + 1))
-
-same_bindings : (bindings : Bindings) (handed : ℕ) → KeepsBindings bindings bindings handed
-same_bindings bindings handed = record { counts = omega arith; bound = λ one is. inl is }
+use Rattle.channel_bus.specs.Sides.{EndState, is_service, is_probed, endpoint_of_channel, without_endpoint, bindings_after_service, channels_after_service, service_verdict, after_service, endpoint_verdict, after_message, side_bind_answer, after_side_bind, after_side_unbind, side_fresh, side_meaning}
 
 -- what stands in an option
 some_is : {X : Type 0} (x y : X) → Some x ≡ Some y → x ≡ y
@@ -37,86 +29,147 @@ some_is {X = X} x y e = ap (λ o. content o) e
     content None = x
     content (Some z) = z
 
-one_bound : (before after : Bindings) (endpoint : Endpoint) (handed : ℕ) → BindsOne before after endpoint handed → KeepsBindings before after handed
-one_bound before after endpoint handed made = record {
-  counts = omega (arith, made.counted);
-  bound = λ one is.
-      elim (eqb one.endpoint.address endpoint.address) as (λ b. eqb one.endpoint.address endpoint.address ≡ b
-      → (bound_at before one.endpoint.address ≡ Some one) ⊎ ((one.since ≡ handed) × (one.endpoint.generation ≡ before.count + 1) × (after.count ≡ before.count + 1))) [
-        | true ↦ λ e.
-            let new : BoundEndpoint = record { endpoint = endpoint; since = handed } in
-            let same : one ≡ new = some_is one new (sym is ∙ ap (bound_at after) (eqb-true one.endpoint.address endpoint.address e) ∙ made.there) in
-            inr (ap (λ (b : BoundEndpoint). b.since) same, ap (λ (b : BoundEndpoint). b.endpoint.generation) same ∙ made.next, made.counted)
-        | false ↦ λ e. inl (sym (made.elsewhere one.endpoint.address (eqb-false one.endpoint.address endpoint.address e)) ∙ is)
-      ] refl;
-}
+-- nothing stands in an option
+none_is : {X : Type 0} (o : Option X) → is_some o ≡ false → o ≡ None
+none_is None e = refl
+none_is (Some x) e = absurd cc
 
-bind_keeps : (bindings : Bindings) (asked handed : ℕ) → KeepsBindings bindings (after_bind bindings asked handed) handed
-bind_keeps bindings asked handed =
-    by (bind_answer bindings asked) refl
-  where
-    by : (answer : Result Endpoint BindFault) → bind_answer bindings asked ≡ answer → KeepsBindings bindings (after_bind bindings asked handed) handed
-    by (Ok endpoint) e = one_bound bindings (after_bind bindings asked handed) endpoint handed (binding bindings asked handed endpoint e)
-    by (Err why) e = subst (λ (left : Bindings). KeepsBindings bindings left handed) (sym (refused bindings asked handed why e)) (same_bindings bindings handed)
+-- what is found passes the test
+found_passes : {X : Type 0} (test : X → Bool) (xs : List X) (x : X) → find test xs ≡ Some x → test x ≡ true
+found_passes test [] x e = absurd cc
+found_passes {X = X} test (y ∷ ys) x e =
+    elim (test y) as (λ b. test y ≡ b → cond b (Some y) (find test ys) ≡ Some x → test x ≡ true) [
+      | true ↦ λ passes found. subst (λ (z : X). test z ≡ true) (let same : y ≡ x = cc in same) passes
+      | false ↦ λ _ found. found_passes test ys x found
+    ] refl e
 
--- who is bound after an unbinding was bound before
-unbound_before : (bindings : Bindings) (address : ℕ) (one : BoundEndpoint) → bound_at (after_unbind bindings address) one.endpoint.address ≡ Some one → bound_at bindings one.endpoint.address ≡ Some one
-unbound_before bindings address one is =
-    elim (eqb one.endpoint.address address) as (λ b. eqb one.endpoint.address address ≡ b → bound_at bindings one.endpoint.address ≡ Some one) [
-      | true ↦ λ e.
-          let none : None ≡ Some one = sym ((unbinding bindings address).there) ∙ ap (bound_at (after_unbind bindings address)) (sym (eqb-true one.endpoint.address address e)) ∙ is in
-          absurd cc
-      | false ↦ λ e. sym ((unbinding bindings address).elsewhere one.endpoint.address (eqb-false one.endpoint.address address e)) ∙ is
-    ] refl
+-- an end with these endpoints and channels
+abbrev with_ends : EndState → Bindings → List Channel → EndState
+with_ends side bindings channels = record side { bindings = bindings; channels = channels }
 
-unbind_keeps : (bindings : Bindings) (address handed : ℕ) → KeepsBindings bindings (after_unbind bindings address) handed
-unbind_keeps bindings address handed = record { counts = omega arith; bound = λ one is. inl (unbound_before bindings address one is) }
+module _ (side : EndState) (channels : List Channel) where
+  same_ends : KeepsEndpoints side_meaning side (with_ends side side.bindings channels)
+  same_ends = record { everywhere = λ address. refl; counted = refl }
 
--- the change that a service message makes
-served_keeps : (side : EndState) (number : ℕ) (ns : NsMessage) (kind : NsKind) → KeepsBindings side.bindings (bindings_after_service side number ns kind) (number + 1)
-served_keeps side number ns Created =
-    elim (is_probed side number ns.name) as (λ b. KeepsBindings side.bindings (cond b (after_bind side.bindings any_address (number + 1)) side.bindings) (number + 1)) [
-      | true ↦ bind_keeps side.bindings any_address (number + 1)
-      | false ↦ same_bindings side.bindings (number + 1)
-    ]
-served_keeps side number ns Destroyed =
-    elim (endpoint_of_channel side ns) as (λ o. KeepsBindings side.bindings (without_endpoint side.bindings o) (number + 1)) [
-      | None ↦ same_bindings side.bindings (number + 1)
-      | Some endpoint ↦ unbind_keeps side.bindings endpoint.address (number + 1)
-    ]
-served_keeps side number ns Duplicate = same_bindings side.bindings (number + 1)
-served_keeps side number ns Unknown = same_bindings side.bindings (number + 1)
-served_keeps side number ns ChannelsFull = same_bindings side.bindings (number + 1)
+  -- a binding, by its answer
+  bind_adds : (asked handed : ℕ) → AddsAtMostOne side_meaning side (with_ends side (after_bind side.bindings asked handed) channels) handed
+  bind_adds asked handed = by (bind_answer side.bindings asked) refl
+    where
+      by : (answer : Result Endpoint BindFault) → bind_answer side.bindings asked ≡ answer → AddsAtMostOne side_meaning side (with_ends side (after_bind side.bindings asked handed) channels) handed
+      by (Ok endpoint) e =
+          let made = binding side.bindings asked handed endpoint e in
+          inr (
+            record { endpoint = endpoint; since = handed },
+            record {
+              free = none_is (bound_at side.bindings endpoint.address) made.free;
+              there = made.there;
+              since = refl;
+              generation = made.next;
+              counted = made.counted;
+              elsewhere = made.elsewhere;
+            },
+          )
+      by (Err why) e = inl (subst (λ (left : Bindings). KeepsEndpoints side_meaning side (with_ends side left channels)) (sym (refused side.bindings asked handed why e)) same_ends)
 
--- a change of an end keeps what a desk keeps, if its endpoints do and the service stays
-keeps : (before after : EndState) (handed : ℕ) → after.has_service ≡ before.has_service → KeepsBindings before.bindings after.bindings handed → KeepsBound side_meaning before after handed
-keeps before after handed service kept = record {
-  aim = λ message. ap (λ b. cond (is_whole message && not (b && eqb (destination_of message) 53)) (Some (destination_of message)) None) service;
-  counts = kept.counts;
-  bound = λ one is.
-      elim (kept.bound one is) [
-        | inl was ↦ inl was
-        | inr new ↦ inr (record { since = new.0; generation = new.1; counted = new.2 })
-      ];
-}
+  -- an unbinding, by what was bound at the address
+  unbind_removes : (address : ℕ) → RemovesAtMostOne side_meaning side (with_ends side (after_unbind side.bindings address) channels)
+  unbind_removes address = by (bound_at side.bindings address) refl
+    where
+      gone : UnbindsOne side.bindings (after_unbind side.bindings address) address
+      gone = unbinding side.bindings address
 
-message_keeps : (side : EndState) (number : ℕ) (message : List ℕ) → KeepsBound side_meaning side (after_message side number message) (number + 1)
-message_keeps side number message =
-    elim (is_whole message && is_service side (destination_of message)) as (λ b. KeepsBound side_meaning side (cond b (after_service side number (service_of (payload_of message))) side) (number + 1)) [
+      by : (found : Option BoundEndpoint) → bound_at side.bindings address ≡ found → RemovesAtMostOne side_meaning side (with_ends side (after_unbind side.bindings address) channels)
+      by None e = inl (record {
+        everywhere = λ other.
+            elim (eqb other address) as (λ b. eqb other address ≡ b → bound_at (after_unbind side.bindings address) other ≡ bound_at side.bindings other) [
+              | true ↦ λ is.
+                  let same : other ≡ address = eqb-true other address is in
+                  ap (bound_at (after_unbind side.bindings address)) same ∙ gone.there ∙ sym e ∙ ap (bound_at side.bindings) (sym same)
+              | false ↦ λ is. gone.elsewhere other (eqb-false other address is)
+            ] refl;
+        counted = gone.counted;
+      })
+      by (Some bound) e =
+          let at : bound.endpoint.address ≡ address = eqb-true bound.endpoint.address address (found_passes (is_at address) side.bindings.bound bound e) in
+          inr (
+            bound,
+            record {
+              was = ap (bound_at side.bindings) at ∙ e;
+              gone = ap (bound_at (after_unbind side.bindings address)) at ∙ gone.there;
+              counted = gone.counted;
+              elsewhere = λ other apart. gone.elsewhere other (λ same. apart (same ∙ sym at));
+            },
+          )
+
+  -- a channel that is made binds at most one, one that is gone unbinds at most one
+  served_changes : (number : ℕ) (ns : NsMessage) (kind : NsKind)
+      → AddsAtMostOne side_meaning side (with_ends side (bindings_after_service side number ns kind) channels) (number + 1)
+      ⊎ RemovesAtMostOne side_meaning side (with_ends side (bindings_after_service side number ns kind) channels)
+  served_changes number ns Created =
+      elim (is_probed side number ns.name) as (λ b.
+      AddsAtMostOne side_meaning side (with_ends side (cond b (after_bind side.bindings any_address (number + 1)) side.bindings) channels) (number + 1)
+      ⊎ RemovesAtMostOne side_meaning side (with_ends side (cond b (after_bind side.bindings any_address (number + 1)) side.bindings) channels)) [
+        | true ↦ inl (bind_adds any_address (number + 1))
+        | false ↦ inl (inl same_ends)
+      ]
+  served_changes number ns Destroyed =
+      elim (endpoint_of_channel side ns) as (λ o.
+      AddsAtMostOne side_meaning side (with_ends side (without_endpoint side.bindings o) channels) (number + 1)
+      ⊎ RemovesAtMostOne side_meaning side (with_ends side (without_endpoint side.bindings o) channels)) [
+        | None ↦ inl (inl same_ends)
+        | Some endpoint ↦ inr (unbind_removes endpoint.address)
+      ]
+  served_changes number ns Duplicate = inl (inl same_ends)
+  served_changes number ns Unknown = inl (inl same_ends)
+  served_changes number ns ChannelsFull = inl (inl same_ends)
+
+same_side : (side : EndState) → KeepsEndpoints side_meaning side side
+same_side side = same_ends side side.channels
+
+message_changes : (side : EndState) (number : ℕ) (message : List ℕ)
+    → AddsAtMostOne side_meaning side (after_message side number message) (number + 1) ⊎ RemovesAtMostOne side_meaning side (after_message side number message)
+message_changes side number message =
+    elim (is_whole message && is_service side (destination_of message)) as (λ b.
+    AddsAtMostOne side_meaning side (cond b (after_service side number (service_of (payload_of message))) side) (number + 1)
+    ⊎ RemovesAtMostOne side_meaning side (cond b (after_service side number (service_of (payload_of message))) side)) [
       | true ↦ by (service_of (payload_of message))
-      | false ↦ keeps side side (number + 1) refl (same_bindings side.bindings (number + 1))
+      | false ↦ inl (inl (same_side side))
     ]
   where
-    by : (told : Option NsMessage) → KeepsBound side_meaning side (after_service side number told) (number + 1)
-    by None = keeps side side (number + 1) refl (same_bindings side.bindings (number + 1))
-    by (Some ns) = keeps side (after_service side number (Some ns)) (number + 1) refl (served_keeps side number ns (kind_of side.channels ns))
+    by : (told : Option NsMessage) → AddsAtMostOne side_meaning side (after_service side number told) (number + 1) ⊎ RemovesAtMostOne side_meaning side (after_service side number told)
+    by None = inl (inl (same_side side))
+    by (Some ns) = served_changes side (channels_after_service side number ns (kind_of side.channels ns)) number ns (kind_of side.channels ns)
 
-bound_keeps : (side : EndState) (address since : ℕ) → KeepsBound side_meaning side (after_side_bind side address since) since
-bound_keeps side address since =
-    elim (is_service side address) as (λ b. KeepsBound side_meaning side (cond b side (record side { bindings = after_bind side.bindings address since })) since) [
-      | true ↦ keeps side side since refl (same_bindings side.bindings since)
-      | false ↦ keeps side (record side { bindings = after_bind side.bindings address since }) since refl (bind_keeps side.bindings address since)
+bound_adds : (side : EndState) (address since : ℕ) → AddsAtMostOne side_meaning side (after_side_bind side address since) since
+bound_adds side address since =
+    elim (is_service side address) as (λ b. AddsAtMostOne side_meaning side (cond b side (record side { bindings = after_bind side.bindings address since })) since) [
+      | true ↦ inl (same_side side)
+      | false ↦ bind_adds side side.channels address since
     ]
+
+unbound_removes : (side : EndState) (address : ℕ) → RemovesAtMostOne side_meaning side (after_side_unbind side address)
+unbound_removes side address =
+    elim (is_service side address) as (λ b. RemovesAtMostOne side_meaning side (cond b side (record side { bindings = after_unbind side.bindings address }))) [
+      | true ↦ inl (same_side side)
+      | false ↦ unbind_removes side side.channels address
+    ]
+
+-- at what an end aims messages, by whether it has the name service
+aim_by : (before after : EndState) → after.has_service ≡ before.has_service → KeepsAim side_meaning before after
+aim_by before after service message = ap (λ b. cond (is_whole message && not (b && eqb (destination_of message) 53)) (Some (destination_of message)) None) service
+
+-- what stands of the name service
+service_stays : (side : EndState) (service : Bool) (after : EndState) → after.has_service ≡ side.has_service → (cond service side after).has_service ≡ side.has_service
+service_stays side true after same = refl
+service_stays side false after same = same
+
+served_service : (side : EndState) (number : ℕ) (told : Option NsMessage) → (after_service side number told).has_service ≡ side.has_service
+served_service side number None = refl
+served_service side number (Some ns) = refl
+
+delivered_service : (side : EndState) (number : ℕ) (told : Option NsMessage) (served : Bool) → (cond served (after_service side number told) side).has_service ≡ side.has_service
+delivered_service side number told true = served_service side number told
+delivered_service side number told false = refl
 
 -- the endpoint of a verdict
 endpoint_in : Verdict → Option Endpoint
@@ -164,26 +217,14 @@ pub side_laws : AreDeskLaws side_meaning
 side_laws = record {
   to = λ side number message endpoint e. to_by (is_whole message) (is_service side (destination_of message)) (service_verdict side number (service_of (payload_of message))) (destination_of message) (λ address. bound_at side.bindings address) endpoint (served_to_none side number (service_of (payload_of message)) endpoint) e;
   addressed = λ side number message endpoint e. addressed_by (is_whole message) (is_service side (destination_of message)) (service_verdict side number (service_of (payload_of message))) (destination_of message) (λ address. bound_at side.bindings address) endpoint e;
-  delivered = message_keeps;
-  bound = bound_keeps;
-  unbound_aim = λ side address message. unbound_aim_by side address message (is_service side address);
-  unbound_counts = λ side address. unbound_counts_by side address (is_service side address);
-  unbound = λ side address one is. unbound_by side address one (is_service side address) is;
+  delivered = message_changes;
+  bound = bound_adds;
+  unbound = unbound_removes;
+  delivered_aim = λ side number message. aim_by side (after_message side number message)
+      (delivered_service side number (service_of (payload_of message)) (is_whole message && is_service side (destination_of message)));
+  bound_aim = λ side address since. aim_by side (after_side_bind side address since) (service_stays side (is_service side address) (record side { bindings = after_bind side.bindings address since }) refl);
+  unbound_aim = λ side address. aim_by side (after_side_unbind side address) (service_stays side (is_service side address) (record side { bindings = after_unbind side.bindings address }) refl);
+  fresh_aim = λ side. aim_by side (side_fresh side) refl;
   fresh = λ side. record { endpoints = refl; bindings = refl };
   answered = answered_by;
 }
-  where
-    left : EndState → ℕ → Bool → EndState
-    left side address service = cond service side (record side { bindings = after_unbind side.bindings address })
-
-    unbound_aim_by : (side : EndState) (address : ℕ) (message : List ℕ) (service : Bool) → aim_of (left side address service) message ≡ aim_of side message
-    unbound_aim_by side address message true = refl
-    unbound_aim_by side address message false = refl
-
-    unbound_counts_by : (side : EndState) (address : ℕ) (service : Bool) → side.bindings.count ≤ (left side address service).bindings.count
-    unbound_counts_by side address true = omega arith
-    unbound_counts_by side address false = omega arith
-
-    unbound_by : (side : EndState) (address : ℕ) (one : BoundEndpoint) (service : Bool) → bound_at (left side address service).bindings one.endpoint.address ≡ Some one → bound_at side.bindings one.endpoint.address ≡ Some one
-    unbound_by side address one true is = is
-    unbound_by side address one false is = unbound_before side.bindings address one is

@@ -46,7 +46,7 @@ abbrev pub life_fault_event : List ℕ → LifeFault → Event
 life_fault_event name life.IncarnationsSpent = event.IncarnationsSpent name
 life_fault_event name why = event.Fault name (fault_number why)
 
--- why a core does not load an image
+-- why a core does not load an image; want of memory is no refusal, so its 0 is never told
 abbrev pub load_fault_event : List ℕ → LoadFault → Event
 load_fault_event name why = fault_at name (unwrap_or (load_fault_number why) 0) (load_fault_index why)
 

@@ -24,10 +24,9 @@ use Rattle.script_lang.specs.declared.commands.RegionSet.{RegionSet}
 use Rattle.script_lang.specs.declared.commands.RegionSet.TheVariants as regions
 use Rattle.memory_pool.specs.declared.regions.Region.{Region}
 use Rattle.memory_pool.specs.Regions.{standard_regions}
-use Rattle.proc_state.specs.Lives.{is_offline}
+use Rattle.proc_state.specs.Lives.{is_offline, recovery_fault}
 use Rattle.crash_recover.specs.Cores.{CoreState, new_core}
 use Rattle.crash_recover.specs.CoreBoots.{needs_image}
-use Rattle.crash_recover.specs.CoreRecoveries.{recovery_fault}
 use Rattle.endpoint_map.specs.Bindings.{no_bindings}
 use Rattle.channel_bus.specs.Sides.{EndState}
 use Rattle.link_bench.specs.Benches.{new_bench_of}

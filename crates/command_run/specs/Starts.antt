@@ -2,10 +2,9 @@
 use Rattle.std.specs.Prelude.{◌≡◌, ℕ, true, false, List, Option, Some, None, is_some, IsTrue, Result, Ok, Err}
 use Rattle.rp_io.specs.Images.{ImageAnswer, IsToldFor, answer_of}
 use Rattle.rp_io.specs.Causes.{Rose}
-use Rattle.proc_state.specs.Lives.{life_after_boot, life_after_handover}
+use Rattle.proc_state.specs.Lives.{life_after_boot, life_after_handover, recovery_fault}
 use Rattle.crash_recover.specs.Cores.{CoreState}
 use Rattle.crash_recover.specs.CoreBoots.{needs_image}
-use Rattle.crash_recover.specs.CoreRecoveries.{recovery_fault}
 use Rattle.link_commands.specs.declared.acts.StartAct.{StartAct}
 use Rattle.link_commands.specs.declared.acts.StartAct.TheVariants as starts
 use Rattle.command_run.specs.declared.starts.Beginning.{Beginning}

@@ -47,6 +47,9 @@ impl FoundImage<'_> {
 /// midst, if it does. A drive hands on what it tells as it goes: with less than a piece kept before it,
 /// less than a piece is kept beside what its last 1,024 steps, or one event, told, behind it and wherever
 /// the sink fails.
+///
+/// Errors: [`CommandFault::Store`] where the store failed, which leaves objects and log as they were;
+/// [`CommandFault::Write`] where the sink failed in a drive; [`CommandFault::NoMemory`].
 pub fn run_command<F: FirmwareStore, K: Sink>(
     objects: &mut Objects,
     command: &Command,

@@ -63,6 +63,8 @@ impl Objects {
     }
 
     /// The same, with the room of as many links and cores as there may be.
+    ///
+    /// Errors: want of memory.
     pub fn with_room(alloc: Global) -> Result<Objects, NoMemory>
         ensures { IfOk result (λ objects. objects ≡ new_run.objects) }
     {
@@ -122,6 +124,8 @@ impl Objects {
 
     /// Runs one command over no store, tells its events, and answers why the run stops in its midst, if
     /// it does.
+    ///
+    /// Errors: want of memory, which may leave anything of the command undone.
     #[tactic(auto, unfolding(crate::specs::Runs::effect_of))]
     pub fn run(&mut self, command: &Command, log: &mut RunLog) -> Result<Option<Stop>, NoMemory>
         requires { IsRunnable command.now }

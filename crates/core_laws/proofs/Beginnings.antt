@@ -14,7 +14,7 @@ use Rattle.proc_state.specs.declared.answers.LifeFault.{LifeFault}
 use Rattle.proc_state.specs.declared.answers.LifeFault.TheVariants as life_fault
 use Rattle.proc_state.specs.declared.answers.Power.{Power}
 use Rattle.proc_state.specs.declared.answers.Power.TheVariants as power
-use Rattle.proc_state.specs.Lives.{CoreLife, Outcome, boot_to, first_start, is_offline, life_after_boot, line_of, most, recovery_to, refusal_of}
+use Rattle.proc_state.specs.Lives.{CoreLife, Outcome, boot_to, first_start, is_offline, life_after_boot, line_of, most, recovery_fault, refusal_of}
 use Rattle.link_bench.specs.Benches.{BenchState, LinkRings, link_in, on_rings}
 use Rattle.link_bench.specs.BenchCrashes.{after_reopen}
 use Rattle.link_bench.specs.BenchEnds.{bench_to_reopen, with_new_host_unless}
@@ -25,12 +25,11 @@ use Rattle.crash_recover.specs.declared.core_faults.StartFault.TheVariants as st
 use Rattle.core_actors.specs.Actors.{driver_names}
 use Rattle.crash_recover.specs.Cores.{CoreOutcome, CoreState, IsKeptCore, loaded_rings, refuse_or}
 use Rattle.crash_recover.specs.CoreBoots.{boot_as, boot_of, core_bench, first_boot, image_fault, load_in, started_core, with_load}
-use Rattle.crash_recover.specs.CoreRecoveries.{core_to_reopen, recovery_fault, recovery_of, reload_fault, reopen_fault}
+use Rattle.crash_recover.specs.CoreRecoveries.{core_to_reopen, recovery_of, reload_fault, reopen_fault}
 use Rattle.crash_recover.specs.KeptCores.{IsKeptBench}
-use Rattle.crash_recover.proofs.Restarts.{recovers}
+use Rattle.crash_recover.proofs.Restarts.{restarts}
 use Rattle.crash_recover.proofs.SameLives.{no_first}
 use Rattle.core_laws.specs.Beginnings.{BeginsEmpty, BeginsLife, ReopensNext, begins_life}
-use Rattle.core_laws.proofs.Outcomes.{none_mapped}
 
 -- ---- links
 
@@ -92,13 +91,6 @@ boot_next : (to : Option LifeState) (life : CoreLife) → (boot_to to life).answ
 boot_next None life is = absurd (no_first life is)
 boot_next (Some state) life is = first_next state 1 power.First power.First life is
 
-recovery_next : (to : Option LifeState) (life : CoreLife) → (recovery_to to life).answer ≡ Ok tt → (recovery_to to life).life.incarnation ≡ life.incarnation + 1
-recovery_next None life is = absurd (cc)
-recovery_next (Some state) life is =
-    cond_both life.recovery (first_start state life.users tt life) (refusal_of life_fault.RecoveryOff life)
-    (λ (out : Outcome (Unit {0})). out.answer ≡ Ok tt → out.life.incarnation ≡ life.incarnation + 1)
-    (λ _. first_next state life.users tt tt life) (λ _ off. absurd (cc)) is
-
 -- ---- cores
 
 -- where a life begins with this outcome, this holds of its core
@@ -147,9 +139,9 @@ pub recovery_begins : (core : CoreState) (found : ImageAnswer) → IsKeptCore co
 unfolding recovery_of
 recovery_begins core found kept =
     let Q = BeginsLife (core.life.incarnation + 1) in
-    unless_refused Q core (option_map start_fault.Life (recovery_fault core.life)) _ (λ may.
+    unless_refused Q core (option_map start_fault.Life (recovery_fault core.life)) _ (λ _.
     unless_refused Q core (reload_fault core found) _ (λ _.
     unless_refused Q (core_to_reopen core) (reopen_fault core) _ (λ opens did begins is. record {
-      life = recovery_next (line_of core.life.state).recovery core.life (recovers core (none_mapped start_fault.Life (recovery_fault core.life) may) opens);
+      life = ap (λ (life : CoreLife). life.incarnation) (restarts core opens);
       link = kept_next core.life core.bench kept;
     })))

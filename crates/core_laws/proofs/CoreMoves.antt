@@ -23,7 +23,7 @@ use Rattle.link_bench.specs.BenchCrashes.{after_reclaim, after_reopen}
 use Rattle.crash_recover.specs.CoreBoots.{config_of, core_bench, fresh_end, load_in, started_core}
 use Rattle.link_bench.specs.BenchEnds.{crashed_bench, with_fresh_caller, bench_to_reopen, with_new_host_unless, reopen_refusal_of, reopen_refusal_by}
 use Rattle.crash_recover.specs.CoreCrashes.{after_report}
-use Rattle.crash_recover.specs.CoreRecoveries.{after_recovery, core_to_reopen, fault_with, link_fault, reopen_fault, reopened_core, spent_fault}
+use Rattle.crash_recover.specs.CoreRecoveries.{after_recovery, core_to_reopen, fault_with, reopen_fault, reopened_core}
 use Rattle.crash_recover.specs.Cores.{CoreState, LoadState, loaded_rings, new_core}
 use Rattle.core_actors.specs.ActorEnds.{actors_after_drivers, actors_at_end, calls_after_end, end_answer, gives_of, host_after_call, message_of, sends_of, taken_number}
 use Rattle.core_actors.specs.declared.actors.Actor.{Actor}
@@ -33,6 +33,7 @@ use Rattle.crash_recover.specs.Drives.{drive_step, placed_map, with_turn_after}
 use Rattle.core_laws.specs.DriveParts.{MayDrive}
 use Rattle.core_laws.proofs.DriveWalks.{AreLeftParts, MayGoOn, drive_left, may_host, may_worker, of_link, turned_may}
 use Rattle.core_laws.proofs.Outcomes.{Stays, first_none, none_mapped, report_stays}
+use Rattle.proc_state.specs.declared.answers.LifeFault.{LifeFault}
 use Rattle.proc_state.specs.Lives.{CoreLife}
 use Rattle.core_laws.specs.BenchMoves.{AreSendable, IsReachedBench, IsReachedCore, IsShortLink}
 use Rattle.core_laws.proofs.Sendable.{end_short, gives_sendable, left_sendable, message_short, none_sendable, sends_sendable, work_sendable}
@@ -95,21 +96,25 @@ clear_at : (bench : BenchState) (why : Option ReclaimRefusal) → reopen_refusal
 clear_at bench None clear = clear
 clear_at bench (Some why) clear = absurd (true≢false (ap is_some clear))
 
-bench_reopened : (bench : BenchState) (is_spent : Bool) → link_fault bench is_spent ≡ None → IsReachedBench bench → IsReachedBench (after_reopen (bench_to_reopen bench))
-bench_reopened bench is_spent none reached =
-    reopened (bench_to_reopen bench) (readied bench reached)
-    (clear_at bench (link_reclaim_refusal (link_in bench) 0) (none_mapped start_fault.Reopen (reopen_refusal_of bench) (first_none _ (spent_fault is_spent) none)))
+bench_reopened : (bench : BenchState) → reopen_refusal_of bench ≡ None → IsReachedBench bench → IsReachedBench (after_reopen (bench_to_reopen bench))
+bench_reopened bench none reached =
+    reopened (bench_to_reopen bench) (readied bench reached) (clear_at bench (link_reclaim_refusal (link_in bench) 0) none)
 
-found_reopened : (found : Option BenchState) (is_spent : Bool) → fault_with found is_spent ≡ None → IfSome found IsReachedBench
+found_reopened : (found : Option BenchState) → IfSome found (λ bench. reopen_refusal_of bench ≡ None) → IfSome found IsReachedBench
     → IfSome (option_map (λ bench. after_reopen (bench_to_reopen bench)) found) IsReachedBench
-found_reopened None is_spent none is = is
-found_reopened (Some bench) is_spent none is = bench_reopened bench is_spent none is
+found_reopened None none is = is
+found_reopened (Some bench) none is = bench_reopened bench none is
 
-pub core_reopened : (core : CoreState) → IsReachedCore core → reopen_fault core ≡ None → IsReachedCore (reopened_core core)
-core_reopened core is none = record { bench = found_reopened core.bench _ none is.bench; calls = is.calls }
+pub core_reopened : (core : CoreState) → IsReachedCore core → IfSome core.bench (λ bench. reopen_refusal_of bench ≡ None) → IsReachedCore (reopened_core core)
+core_reopened core is none = record { bench = found_reopened core.bench none is.bench; calls = is.calls }
+
+-- where nothing keeps a core from being started again, nothing keeps its link from being reopened
+reopens : (found : Option BenchState) (why : Option LifeFault) → fault_with found why ≡ None → IfSome found (λ bench. reopen_refusal_of bench ≡ None)
+reopens None why none = tt
+reopens (Some bench) why none = none_mapped start_fault.Reopen (reopen_refusal_of bench) (first_none _ (option_map start_fault.Life why) none)
 
 pub core_recovered : (core : CoreState) (given : LoadState) → IsReachedCore core → reopen_fault core ≡ None → IsReachedCore (after_recovery core given)
-core_recovered core given is none = record { bench = found_reopened core.bench _ none is.bench; calls = record { host = none_sendable; worker = none_sendable } }
+core_recovered core given is none = record { bench = found_reopened core.bench (reopens core.bench _ none) is.bench; calls = record { host = none_sendable; worker = none_sendable } }
 
 -- ---- a boot and a shutdown
 

@@ -27,7 +27,7 @@ kept_stays = record {
   unlinked = λ core life image loaded load is. tt;
   crashed = λ core life stops is. map_kept core.life life core.bench crashed_bench (λ bench one. crash_kept core.life life bench stops.inc stops.stopped one) is;
   readied = λ core may is. core_readied core is;
-  recovered = λ core found clear may opens is. core_recovered core (load_in core found) is may opens;
+  recovered = λ core found clear may opens is. core_recovered core (load_in core found) is opens;
 }
 
 pub core_reported : (core : CoreState) → IsKeptCore core → IsKeptCore (after_report core)

@@ -12,7 +12,7 @@ use Rattle.proc_state.specs.declared.answers.Power.{Power}
 use Rattle.proc_state.specs.declared.answers.Power.TheVariants as power
 use Rattle.proc_state.specs.declared.answers.Report.{Report}
 use Rattle.proc_state.specs.declared.answers.Report.TheVariants as report
-use Rattle.proc_state.specs.Lives.{CoreLife, is_offline, is_up, leave_to, life_after_boot, life_after_crash, life_after_detach, life_after_handover, life_after_shutdown, line_of}
+use Rattle.proc_state.specs.Lives.{CoreLife, is_offline, is_up, leave_to, life_after_boot, life_after_crash, life_after_detach, life_after_handover, life_after_shutdown, line_of, recovery_fault}
 use Rattle.crash_recover.specs.declared.core_answers.Crash.{Crash}
 use Rattle.crash_recover.specs.declared.core_answers.Leave.{Leave}
 use Rattle.crash_recover.specs.declared.core_answers.Start.{Start}
@@ -27,7 +27,7 @@ use Rattle.crash_recover.specs.CoreBoots.{boot_as, boot_of, first_boot, handover
 use Rattle.crash_recover.specs.CoreCrashes.{crashed_core, first_report, report_as, report_of}
 use Rattle.crash_recover.specs.CoreLeaves.{close_or, detach_of, detached_core, leave_as, live_inc, shutdown_of, unloaded_core}
 use Rattle.crash_recover.proofs.SameLives.{IsSame, IsStopped, boot_same, crash_stops, handover_same, leave_same, starts_up}
-use Rattle.crash_recover.specs.CoreRecoveries.{after_recovery, core_to_reopen, recovery_fault, recovery_of, reload_fault, reopen_fault}
+use Rattle.crash_recover.specs.CoreRecoveries.{after_recovery, core_to_reopen, recovery_of, reload_fault, reopen_fault}
 
 -- a refusal that is named otherwise is there just where it was
 pub none_mapped : {A B : Type 0} (f : A → B) (found : Option A) → option_map f found ≡ None → found ≡ None

@@ -1,6 +1,6 @@
 //! Laws of the links of benches and of cores. Each is the contract of an empty function, and speaks of definitions alone.
 
-ghost use Rattle.std.specs.Prelude.{◌≡◌, ◌≢◌, ◌↔◌, ◌<◌, ◌+◌, ℕ, Bool, false, true, List, None, Some, Ok};
+ghost use Rattle.std.specs.Prelude.{◌≡◌, ◌≢◌, ◌↔◌, ◌<◌, ◌+◌, ℕ, Bool, false, true, List, IfSome, None, Some, Ok};
 ghost use Rattle.rp_io.specs.Images.{ImageAnswer};
 ghost use Rattle.rp_base.specs.declared.limits.TheConstants.{CALLERS_MOST};
 ghost use Rattle.rp_base.specs.declared.kinds.End.{End};
@@ -20,10 +20,10 @@ ghost use Rattle.link_bench.specs.declared.acts.LinkAct.{LinkAct};
 ghost use Rattle.link_bench.specs.Acts.{IsFitAct, link_act};
 ghost use Rattle.link_bench.specs.Watchers.{nobody_sees};
 ghost use Rattle.crash_recover.specs.CoreBoots.{boot_of, core_bench, handover_of};
-ghost use Rattle.link_bench.specs.BenchEnds.{bench_to_reopen, crashed_bench};
+ghost use Rattle.link_bench.specs.BenchEnds.{bench_to_reopen, crashed_bench, reopen_refusal_of};
 ghost use Rattle.crash_recover.specs.CoreCrashes.{report_of};
 ghost use Rattle.crash_recover.specs.CoreLeaves.{detach_of, shutdown_of};
-ghost use Rattle.crash_recover.specs.CoreRecoveries.{core_to_reopen, recovery_fault, recovery_of, reopen_fault, reopened_core, with_next_life};
+ghost use Rattle.crash_recover.specs.CoreRecoveries.{core_to_reopen, recovery_of, reopened_core, with_next_life};
 ghost use Rattle.crash_recover.specs.Cores.{CoreState, new_core, IsKeptCore, IsReadyCore};
 ghost use Rattle.crash_recover.specs.CoreActs.{core_act};
 ghost use Rattle.core_actors.specs.ActorSteps.{first_or_take};
@@ -33,7 +33,7 @@ ghost use Rattle.core_actors.specs.PendingCalls.{AreOwnUsed, HasNoneBegun, IsRea
 ghost use Rattle.crash_recover.specs.KeptCores.{IsKeptBench, IsUnmanaged};
 ghost use Rattle.core_laws.specs.CrashCallers.{crash_reaches, end_after_crash};
 ghost use Rattle.core_laws.specs.DriveParts.{MayDrive};
-ghost use Rattle.proc_state.specs.Lives.{CoreLife, most};
+ghost use Rattle.proc_state.specs.Lives.{CoreLife, most, recovery_fault};
 ghost use Rattle.rp_base.specs.declared.kinds.LifeState.TheVariants as state;
 ghost use Rattle.core_laws.specs.FoundImages.{FindsLoadable};
 ghost use Rattle.core_laws.specs.Beginnings.{BeginsEmpty, BeginsLife, ReopensNext, begins_life};
@@ -92,7 +92,7 @@ pub fn core_reached()
     ensures detach { (may_step : Bool) (core : CoreState) → IsReachedCore core → IsReachedCore (detach_of may_step core).core }
     ensures report { (may_step : Bool) (core : CoreState) → IsReachedCore core → IsReachedCore (report_of may_step core).core }
     ensures readied { (core : CoreState) → IsReachedCore core → IsReachedCore (core_to_reopen core) }
-    ensures reopened { (core : CoreState) → IsReachedCore core → reopen_fault core ≡ None → IsReachedCore (reopened_core core) }
+    ensures reopened { (core : CoreState) → IsReachedCore core → IfSome core.bench (λ bench. reopen_refusal_of bench ≡ None) → IsReachedCore (reopened_core core) }
     ensures recovery { (core : CoreState) (found : ImageAnswer) → IsReachedCore core → IsReachedCore (recovery_of core found).core }
     ensures drive { (core : CoreState) → MayDrive core → IsReachedCore core → IsReachedCore (drive_step core).core }
     ensures act { (core : CoreState) (steps : ℕ) (act : LinkAct (List ℕ)) → IsFitAct act → IsReachedCore core → IsReachedCore (core_act core steps act).core }

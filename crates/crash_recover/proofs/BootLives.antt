@@ -1,6 +1,7 @@
 -- Which boots need an image, and what they do with one and without.
-use Rattle.std.proofs.Common.{◌≡◌, ◌==◌, ◌&&◌, ℕ, Bool, true, false, cond, not, List, None, Ok, Err, Result, refl, sym, ap, ◌∙◌}
-use Rattle.std.proofs.lemmas.Bool.{and_parts, cond_both, not-true, true≢false}
+use Rattle.std.proofs.Common.{◌≡◌, ◌==◌, ◌&&◌, ℕ, Bool, true, false, cond, List, None, Ok, Err, Result, refl, sym, ap, ◌∙◌}
+use Rattle.std.proofs.lemmas.Bool.{and_parts, cond_both, true≢false}
+use Rattle.std.specs.Result.{is_ok}
 use Rattle.rp_io.specs.Images.{ImageAnswer}
 use Rattle.rp_base.specs.declared.kinds.LifeState.{LifeState}
 use Rattle.rp_base.specs.declared.kinds.LifeState.TheVariants.{Offline, Running, Crashed, Attached, Detached}
@@ -17,25 +18,28 @@ use Rattle.crash_recover.specs.declared.core_faults.StartFault.TheVariants as st
 use Rattle.crash_recover.specs.Cores.{CoreOutcome, CoreState, LoadState, refuse_or}
 use Rattle.crash_recover.specs.CoreBoots.{BeginsBoot, boot_as, boot_of, image_fault, load_in, needs_image, started_core, with_load}
 
-unneeded_at : (state : LifeState) (life : CoreLife) → ((boot_to (line_of state).boot life).answer ≡ Ok power.First → ⊥) → (is_offline state && not (life.incarnation == most)) ≡ false
+unneeded_at : (state : LifeState) (life : CoreLife) → ((boot_to (line_of state).boot life).answer ≡ Ok power.First → ⊥) → (is_offline state && is_ok (boot_to (line_of state).boot life).answer) ≡ false
 unneeded_at Offline life apart =
-    cond_both (life.incarnation == most) (refusal_of life_fault.IncarnationsSpent life) _ (λ (out : Outcome Power). (out.answer ≡ Ok power.First → ⊥) → not (life.incarnation == most) ≡ false)
-    (λ spent _. ap not spent) (λ _ none. absurd (none refl)) apart
+    cond_both (life.incarnation == most) (refusal_of life_fault.IncarnationsSpent life) _ (λ (out : Outcome Power). (out.answer ≡ Ok power.First → ⊥) → is_ok out.answer ≡ false)
+    (λ _ _. refl) (λ _ none. absurd (none refl)) apart
 unneeded_at Running life apart = refl
 unneeded_at Crashed life apart = refl
 unneeded_at Attached life apart = refl
 unneeded_at Detached life apart = refl
 
 -- a boot that starts no core needs none
-pub unneeded : (life : CoreLife) → ((life_after_boot life).answer ≡ Ok power.First → ⊥) → (is_offline life.state && not (life.incarnation == most)) ≡ false
+pub unneeded : (life : CoreLife) → ((life_after_boot life).answer ≡ Ok power.First → ⊥) → (is_offline life.state && is_ok (life_after_boot life).answer) ≡ false
 unneeded life apart = unneeded_at life.state life apart
 
 -- ---- what a boot does with an image that is loaded
 
-runs_at : (state : LifeState) (core : CoreState) (name : List ℕ) (found : ImageAnswer) → core.life.state ≡ state → is_offline state ≡ true → (core.life.incarnation == most) ≡ false → image_fault core found ≡ None
+runs_at : (state : LifeState) (core : CoreState) (name : List ℕ) (found : ImageAnswer) → core.life.state ≡ state → is_offline state ≡ true → is_ok (boot_to (line_of state).boot core.life).answer ≡ true → image_fault core found ≡ None
     → (boot_as (boot_to (line_of state).boot core.life).life (boot_to (line_of state).boot core.life).answer core name found).core
     ≡ started_core (boot_to (line_of state).boot core.life).life (with_load core name (load_in core found))
-runs_at Offline core name found there off more fits = rw more (rw (ap is_offline there) (rw fits refl))
+runs_at Offline core name found there off more fits =
+    cond_both (core.life.incarnation == most) (refusal_of life_fault.IncarnationsSpent core.life) _
+    (λ (out : Outcome Power). is_ok out.answer ≡ true → (boot_as out.life out.answer core name found).core ≡ started_core out.life (with_load core name (load_in core found)))
+    (λ _ ok. absurd (true≢false (sym ok))) (λ _ _. rw (ap is_offline there) (rw fits refl)) more
 runs_at Running core name found there off more fits = absurd (true≢false (sym off))
 runs_at Crashed core name found there off more fits = absurd (true≢false (sym off))
 runs_at Attached core name found there off more fits = absurd (true≢false (sym off))
@@ -45,11 +49,11 @@ pub boot_runs : (core left : CoreState) (name : List ℕ) (found : ImageAnswer) 
     → None ≡ image_fault core found → given ≡ load_in core found → left ≡ started_core life (with_load core name given) → left ≡ (boot_of core name found).core
 unfolding boot_of
 boot_runs core left name found life given needs lives fits is starts =
-    let both = and_parts (is_offline core.life.state) (not (core.life.incarnation == most)) needs in
+    let both = and_parts (is_offline core.life.state) (is_ok (life_after_boot core.life).answer) needs in
     starts
     ∙ ap (λ (life : CoreLife). started_core life (with_load core name given)) lives
     ∙ ap (λ (given : LoadState). started_core (life_after_boot core.life).life (with_load core name given)) is
-    ∙ sym (runs_at core.life.state core name found refl both.0 (not-true (core.life.incarnation == most) both.1) (sym fits))
+    ∙ sym (runs_at core.life.state core name found refl both.0 both.1 (sym fits))
 
 -- ---- what a boot does without an image
 
@@ -73,7 +77,7 @@ unfolding boot_of
 begins_attached core left did is loaded told starts =
     let life = (life_after_boot core.life).life in
     let End : CoreState → Start → CoreOutcome Start StartFault = λ after did. record { core = after; answer = Ok did } in (
-      ap (λ (off : Bool). off && not (core.life.incarnation == most)) loaded,
+      ap (λ (off : Bool). off && is_ok (life_after_boot core.life).answer) loaded,
       tt,
       λ name found. ap (λ (answer : Result Power LifeFault). boot_as life answer core name found) is
           ∙ ap (λ (off : Bool). cond off (refuse_or core (image_fault core found) (End (started_core life (with_load core name (load_in core found))) (start.Running life.incarnation)))

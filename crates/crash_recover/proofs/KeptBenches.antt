@@ -1,12 +1,9 @@
 -- What is done on the link of a core keeps what it keeps, and so does a life that goes on.
-use Rattle.std.proofs.Common.{◌≡◌, ◌==◌, ◌<◌, ℕ, ◌+◌, cond, Bool, true, false, List, Option, Some, None, IfSome, is_some, option_map, refl, sym, ap, ◌∙◌, arith}
-use Rattle.std.proofs.lemmas.Bool.{cond_both, true≢false}
+use Rattle.std.proofs.Common.{◌≡◌, ◌<◌, ℕ, ◌+◌, true, List, Option, Some, None, IfSome, option_map, refl, sym, ap, subst, ◌∙◌, arith}
+use Rattle.std.proofs.lemmas.Bool.{cond_both}
 use Rattle.rp_base.specs.declared.kinds.End.{End}
 use Rattle.rp_base.specs.declared.kinds.End.TheVariants as side
-use Rattle.rp_base.specs.declared.kinds.LifeState.{LifeState}
-use Rattle.rp_base.specs.declared.kinds.LifeState.TheVariants.{Offline, Running, Crashed, Attached, Detached}
-use Rattle.proc_state.specs.declared.answers.LifeFault.TheVariants as life_fault
-use Rattle.proc_state.specs.Lives.{CoreLife, Outcome, first_start as started_life, is_up, life_after_recovery, line_of, most, recovery_to, refusal_of}
+use Rattle.proc_state.specs.Lives.{CoreLife, is_up}
 use Rattle.fw_load.specs.declared.rings.RingPair.{RingPair}
 use Rattle.lane_model.specs.declared.calls.Wish.{Wish}
 use Rattle.lane_model.specs.declared.recoveries.ReclaimRefusal.{ReclaimRefusal}
@@ -17,7 +14,7 @@ use Rattle.link_bench.specs.BenchCrashes.{after_reopen, reclaim_leaves, reclaim_
 use Rattle.link_bench.specs.Benches.{BenchState, BenchWalk, advance_walk, is_in_call, link_in, start_walk, with_new_caller}
 use Rattle.crash_recover.specs.CoreBoots.{core_bench}
 use Rattle.link_bench.specs.BenchEnds.{bench_to_reopen, with_new_host_unless}
-use Rattle.crash_recover.specs.CoreRecoveries.{after_recovery, core_to_reopen, recovery_fault, recovery_fault_to, reopen_fault, reopened_core, next_life, with_next_life}
+use Rattle.crash_recover.specs.CoreRecoveries.{after_recovery, core_to_reopen, next_life, reopen_fault, reopened_core, with_next_life}
 use Rattle.crash_recover.specs.Cores.{CoreState, IsKeptCore, LoadState}
 use Rattle.core_actors.specs.ActorSteps.{link_step}
 use Rattle.link_bench.specs.declared.acts.LinkAct.{LinkAct}
@@ -30,7 +27,7 @@ use Rattle.core_actors.specs.ActorEnds.{actors_after_end}
 use Rattle.crash_recover.specs.KeptCores.{IsKeptBench}
 use Rattle.crash_recover.proofs.KeptCrashes.{gone_kept, host_renewed}
 use Rattle.crash_recover.proofs.KeptLinks.{advance_kept, start_kept, whole_kept}
-use Rattle.crash_recover.proofs.Restarts.{unspent}
+use Rattle.crash_recover.proofs.Restarts.{restarts}
 use Rattle.crash_recover.proofs.SameLives.{IsSame}
 
 -- ---- other callers
@@ -113,26 +110,9 @@ pub core_reopened : (core : CoreState) → IsKeptCore core → IsKeptCore (with_
 core_reopened core is =
     map_kept core.life (next_life core.life) core.bench (λ bench. after_reopen (bench_to_reopen bench)) (λ bench one. opened core.life (bench_to_reopen bench) (readied core.life bench one)) is
 
--- a life that is recovered is the next one, which runs
-recovered_life : (life : CoreLife) → recovery_fault_to (Some Running) life ≡ None → (life.incarnation == most) ≡ false → IsSame (next_life life) (recovery_to (Some Running) life).life
-recovered_life life may more =
-    cond_both life.recovery (started_life Running life.users tt life) (refusal_of life_fault.RecoveryOff life) (λ (left : Outcome (Unit {0})). IsSame (next_life life) left.life)
-    (λ _. cond_both (life.incarnation == most) (refusal_of life_fault.IncarnationsSpent life) _ (λ (left : Outcome (Unit {0})). IsSame (next_life life) left.life)
-    (λ spent. absurd (true≢false (sym spent ∙ more))) (λ _. record { inc = refl; up = refl }))
-    (λ off. absurd (true≢false (ap is_some (sym (ap (λ (on : Bool). cond on None (Some life_fault.RecoveryOff)) off) ∙ may))))
-
-runs_again : (state : LifeState) (life : CoreLife) → recovery_fault_to (line_of state).recovery life ≡ None → (life.incarnation == most) ≡ false → IsSame (next_life life) (recovery_to (line_of state).recovery life).life
-runs_again Offline life may more = absurd (true≢false (ap is_some may))
-runs_again Running life may more = absurd (true≢false (ap is_some may))
-runs_again Crashed life may more = recovered_life life may more
-runs_again Attached life may more = absurd (true≢false (ap is_some may))
-runs_again Detached life may more = absurd (true≢false (ap is_some may))
-
 -- the link of a core that is recovered
-pub core_recovered : (core : CoreState) (given : LoadState) → IsKeptCore core → recovery_fault core.life ≡ None → reopen_fault core ≡ None → IsKeptCore (after_recovery core given)
-core_recovered core given is may opens =
-    let same = runs_again core.life.state core.life may (unspent core opens) in
-    found_same (next_life core.life) (life_after_recovery core.life).life (reopened_core core).bench same (core_reopened core is)
+pub core_recovered : (core : CoreState) (given : LoadState) → IsKeptCore core → reopen_fault core ≡ None → IsKeptCore (after_recovery core given)
+core_recovered core given is opens = subst (λ (life : CoreLife). IfSome (reopened_core core).bench (IsKeptBench life)) (sym (restarts core opens)) (core_reopened core is)
 
 -- ---- steps and acts
 

@@ -1,12 +1,12 @@
 -- What is done to a core leaves its link ready for its actors' next steps: a start, a crash, a recovery, acts of others and steps of the actors.
-use Rattle.std.proofs.Common.{◌≡◌, ◌<◌, ℕ, Bool, true, false, List, [], Option, Some, None, IfSome, Result, Ok, Err, OnOk, OnErr, is_some, option_map, refl, sym, ap, subst, ◌∙◌}
-use Rattle.std.proofs.lemmas.Bool.{false≢true, or_parts, true≢false}
+use Rattle.std.proofs.Common.{◌≡◌, ◌<◌, ℕ, Bool, true, false, List, [], Option, Some, None, IfSome, Result, Ok, Err, OnOk, OnErr, option_map, refl, sym, ap, subst, ◌∙◌}
+use Rattle.std.proofs.lemmas.Bool.{false≢true, or_parts}
 use Rattle.rp_base.specs.declared.kinds.End.{End}
 use Rattle.rp_base.specs.declared.kinds.LifeState.{LifeState}
-use Rattle.rp_base.specs.declared.kinds.LifeState.TheVariants.{Offline, Running, Crashed, Attached, Detached}
 use Rattle.addr_translate.specs.Maps.{Mapping}
 use Rattle.fw_load.specs.declared.rings.RingPair.{RingPair}
-use Rattle.proc_state.specs.Lives.{CoreLife, is_up, line_of}
+use Rattle.proc_state.specs.Lives.{CoreLife, is_up, recovery_fault}
+use Rattle.proc_state.proofs.Recoveries.{crashed_life}
 use Rattle.lane_model.specs.declared.calls.Wish.{Wish}
 use Rattle.lane_model.specs.declared.recoveries.ReclaimRefusal.{ReclaimRefusal}
 use Rattle.lane_model.specs.Links.{end_of, free_number}
@@ -29,7 +29,7 @@ use Rattle.core_actors.proofs.ReadyOthers.{advance_ready, begun_ready, reclaim_b
 use Rattle.core_actors.proofs.ReadyParts.{act_stands, advance_none, begun_none, reclaim_none}
 use Rattle.crash_recover.specs.CoreBoots.{core_bench, started_core}
 use Rattle.crash_recover.specs.CoreCrashes.{crashed_core}
-use Rattle.crash_recover.specs.CoreRecoveries.{after_recovery, core_to_reopen, recovery_fault, recovery_fault_to}
+use Rattle.crash_recover.specs.CoreRecoveries.{after_recovery, core_to_reopen}
 use Rattle.crash_recover.specs.Cores.{CoreState, IsReadyCore, LoadState, loaded_rings}
 use Rattle.crash_recover.specs.KeptCores.{IsKeptBench, IsReadyLink}
 use Rattle.crash_recover.proofs.SameLives.{IsSame, IsStopped}
@@ -88,20 +88,12 @@ renewed_begun : (bench : BenchState) (why : Option ReclaimRefusal) → HasNoneBe
 renewed_begun bench None is = let gone = reclaim_begun bench 0 is in record { host = gone.host; worker = gone.worker }
 renewed_begun bench (Some why) is = is
 
--- a core that waits for its recovery is not up
-stopped : (state : LifeState) (life : CoreLife) → recovery_fault_to (line_of state).recovery life ≡ None → is_up state ≡ false
-stopped Offline life may = refl
-stopped Running life may = absurd (true≢false (ap is_some may))
-stopped Crashed life may = refl
-stopped Attached life may = absurd (true≢false (ap is_some may))
-stopped Detached life may = refl
-
 -- the link that a reopening finds
 pub readied_link : (life : CoreLife) (actors : ActorsState) (found : Option BenchState) → recovery_fault life ≡ None → IsReadyLink life.state actors found
     → IsReadyLink life.state actors (option_map bench_to_reopen found)
 readied_link life actors found may is = record {
   begun = map_begun found bench_to_reopen (λ bench one. renewed_begun bench (link_reclaim_refusal (link_in bench) 0) one) is.begun;
-  calls = λ running. absurd (false≢true (sym (stopped life.state life may) ∙ running));
+  calls = λ running. absurd (false≢true (sym (ap is_up (crashed_life life may)) ∙ running));
 }
 
 pub readied_ready : (core : CoreState) → recovery_fault core.life ≡ None → IsReadyCore core → IsReadyCore (core_to_reopen core)

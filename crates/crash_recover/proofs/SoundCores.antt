@@ -4,12 +4,11 @@ use Rattle.std.proofs.lemmas.Bool.{true≢false}
 use Rattle.rp_base.specs.declared.kinds.LifeState.{LifeState}
 use Rattle.memory_pool.specs.declared.regions.Region.{Region}
 use Rattle.fw_load.specs.declared.loading.Loaded.{Loaded}
-use Rattle.proc_state.specs.Lives.{CoreLife, is_offline}
+use Rattle.proc_state.specs.Lives.{CoreLife, is_offline, recovery_fault}
 use Rattle.link_bench.specs.BenchEnds.{bench_to_reopen}
 use Rattle.link_bench.specs.Benches.{BenchState}
 use Rattle.core_actors.specs.Actors.{ActorsState}
 use Rattle.crash_recover.specs.Cores.{SoundCore}
-use Rattle.crash_recover.specs.CoreRecoveries.{recovery_fault}
 use Rattle.crash_recover.specs.KeptCores.{IsKeptBench, IsReadyLink}
 use Rattle.crash_recover.proofs.KeptBenches.{map_kept, readied}
 use Rattle.crash_recover.proofs.ReadyCores.{readied_link}

@@ -5,6 +5,7 @@ use Rattle.link_bench.specs.declared.acts.LinkAct.{LinkAct}
 use Rattle.link_bench.specs.Benches.{BenchState}
 use Rattle.link_bench.specs.Acts.{Acted, link_act}
 use Rattle.core_actors.specs.Actors.{ActorsState}
+use Rattle.crash_recover.specs.declared.core_acts.TheConstants.{OWN_CALLERS}
 use Rattle.crash_recover.specs.Cores.{CoreState}
 use Rattle.core_actors.specs.ActorEnds.{actors_after_end}
 
@@ -26,7 +27,7 @@ core_after_act core acted = record core { bench = Some acted.bench; actors = act
 
 -- an act on the link of a core
 abbrev pub act_on_core : CoreState → BenchState → ℕ → LinkAct (List ℕ) → Acted ActorsState
-act_on_core core bench steps act = link_act actors_after_end 2 bench core.actors steps act
+act_on_core core bench steps act = link_act actors_after_end OWN_CALLERS bench core.actors steps act
 
 -- an act on the link that a core has or not
 abbrev pub core_act_on : CoreState → ℕ → LinkAct (List ℕ) → Option BenchState → CoreActed

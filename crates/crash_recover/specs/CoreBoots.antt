@@ -1,6 +1,6 @@
 -- What a boot and a handover of a core answer and leave (`rproc_boot`, `rproc_fw_boot` and `rproc_attach` of Linux remoteproc_core.c; the handover, the faults and their order are own).
-use Rattle.std.specs.Prelude.{◌≡◌, ℕ, ◌==◌, Bool, true, false, not, ◌&&◌, List, [], Option, Some, option_map, unwrap_or, Result, Ok, Err, OnErr, if◌then◌else◌}
-use Rattle.std.specs.Result.{result_map_both, result_ok}
+use Rattle.std.specs.Prelude.{◌≡◌, ℕ, Bool, true, false, ◌&&◌, List, [], Option, Some, option_map, unwrap_or, Result, Ok, Err, OnErr, if◌then◌else◌}
+use Rattle.std.specs.Result.{is_ok, result_map_both, result_ok}
 use Rattle.rp_base.specs.declared.kinds.End.TheVariants as side
 use Rattle.rp_io.specs.Images.{ImageAnswer}
 use Rattle.rp_io.specs.declared.faults.FetchFault.TheVariants as fetch
@@ -17,7 +17,7 @@ use Rattle.fw_load.specs.Rings.{pair_from, traces_of}
 use Rattle.resource_table.specs.Entries.{entries_of}
 use Rattle.fw_load.specs.Tables.{entries_in, patched_in, table_of}
 use Rattle.fw_load.specs.declared.rings.RingPair.{RingPair}
-use Rattle.proc_state.specs.Lives.{CoreLife, is_offline, life_after_boot, life_after_handover, most}
+use Rattle.proc_state.specs.Lives.{CoreLife, is_offline, life_after_boot, life_after_handover}
 use Rattle.proc_state.specs.declared.answers.LifeFault.{LifeFault}
 use Rattle.proc_state.specs.declared.answers.Power.{Power}
 use Rattle.proc_state.specs.declared.answers.Power.TheVariants as power
@@ -36,12 +36,12 @@ use Rattle.link_bench.specs.Benches.{BenchState, new_bench_of, with_new_caller}
 use Rattle.core_actors.specs.Actors.{driver_names, fresh_actors}
 use Rattle.crash_recover.specs.Cores.{CoreOutcome, CoreState, LoadState, loaded_rings, refuse_or}
 
--- why a store tells nothing of an image, as a call that asks it answers that
+-- why a store tells nothing of an image, as a call that asks it answers that (own)
 abbrev pub core_fault_of_store : StoreFault → CoreFault
 core_fault_of_store store_fault.Failed = fault.Fetch fetch.Failed
 core_fault_of_store store_fault.NoMemory = fault.NoMemory
 
--- a refusal of a start, as a call that asks a store answers it
+-- a refusal of a start, as a call that asks a store answers it (own)
 abbrev pub core_fault_of_start : StartFault → CoreFault
 core_fault_of_start (start_fault.NoImage no_image.Missing) = fault.Fetch fetch.Missing
 core_fault_of_start (start_fault.NoImage (no_image.TooLarge bytes)) = fault.Fetch (fetch.TooLarge bytes)
@@ -110,9 +110,9 @@ started_core life core = record core {
   actors = fresh_actors core.actors (loaded_entry core.loaded);
 }
 
--- whether a boot needs an image: the core is offline, and an incarnation is left
+-- whether a boot needs an image: the core is offline, and its life may be booted
 abbrev pub needs_image : CoreState → Bool
-needs_image core = is_offline core.life.state && not (core.life.incarnation == most)
+needs_image core = is_offline core.life.state && is_ok (life_after_boot core.life).answer
 
 -- the first user of a core starts it in this life: an offline core loads an image, and a detached one is attached as it is
 abbrev pub first_boot : CoreLife → CoreState → List ℕ → ImageAnswer → CoreOutcome Start StartFault
@@ -155,24 +155,24 @@ handover_of core name found = handover_as (life_after_handover core.life).life (
 
 -- ---- calls that ask a store
 
--- a call of a core did what this does with what a store has
+-- a call of a core did what this does with what a store has (own)
 pub record DidWith {A : Type 0} (IsHad : ImageAnswer → Type 0) (does : ImageAnswer → CoreOutcome A CoreFault) (left : CoreState) (answer : Result A CoreFault) : Type 0 where
   pub found : ImageAnswer
   pub had : IsHad found
   pub core : left ≡ (does found).core
   pub answers : answer ≡ (does found).answer
 
--- the answer of a boot in short: whether it started the core
+-- the answer of a boot in short: whether it started the core (own)
 abbrev pub power_of : Start → Power
 power_of (start.Users users) = power.Counted users
 power_of (start.Running inc) = power.First
 power_of (start.Attached inc) = power.First
 power_of start.Detached = power.First
 
--- the same outcome, answered in short
+-- the same outcome, answered in short (own)
 abbrev pub in_short : {A B E G : Type 0} → (A → B) → (E → G) → CoreOutcome A E → CoreOutcome B G
 in_short short why outcome = record { core = outcome.core; answer = result_map_both short why outcome.answer }
 
--- an answer of which no more is told than that there is one
+-- an answer of which no more is told than that there is one (own)
 abbrev pub as_unit : {A : Type 0} → A → Unit {0}
 as_unit answer = tt

@@ -14,6 +14,7 @@ use Rattle.link_bench.specs.declared.benches.BenchFault.{BenchFault}
 use Rattle.link_bench.specs.declared.benches.BenchFault.TheVariants as fault
 use Rattle.link_bench.specs.declared.benches.Reach.{Reach}
 use Rattle.link_bench.specs.declared.benches.Reach.TheVariants as reach
+use Rattle.crash_recover.specs.declared.core_acts.TheConstants.{OWN_CALLERS}
 use Rattle.crash_recover.specs.declared.core_callers.StepFault.{StepFault}
 use Rattle.crash_recover.specs.declared.core_callers.StepFault.TheVariants as step
 use Rattle.link_bench.specs.Benches.{BenchState, BenchWalk, advance_walk, begin_fault, link_in, step_fault, with_begun, with_new_caller}
@@ -25,7 +26,7 @@ use Rattle.core_actors.specs.ActorEnds.{actors_after_end}
 
 -- the callers 0 and 1 are those of the core's own actors
 abbrev pub is_own : ℕ → Bool
-is_own caller = nat_lt caller 2
+is_own caller = nat_lt caller OWN_CALLERS
 
 -- a call on the link of a core is refused to the core's own callers as to one that isn't in use
 abbrev pub core_fault : ℕ → Option BenchFault → Option BenchFault

@@ -35,7 +35,7 @@ report_of may_step core = report_as may_step (life_after_crash core.life).life (
 abbrev pub after_report : CoreState → CoreState
 after_report core = (report_of true core).core
 
--- the answer in short
+-- the answer in short (own)
 abbrev pub report_in_short : Crash → Report
 report_in_short (crash.First closed) = report.First
 report_in_short crash.Already = report.Already

@@ -56,12 +56,12 @@ detach_of may_step core =
     let after = life_after_detach core.life in
     leave_as may_step core (detached_core after.life core) after.life after.answer
 
--- a refusal of a leave, as a call in short answers it
+-- a refusal of a leave, as a call in short answers it (own)
 abbrev pub core_fault_of_leave : LeaveFault → CoreFault
 core_fault_of_leave (leave_fault.Life why) = fault.Life why
 core_fault_of_leave (leave_fault.CallerOut caller) = fault.CallerOut caller
 
--- the answer in short
+-- the answer in short (own)
 abbrev pub leave_in_short : Leave → Left
 leave_in_short (leave.Users users) = left.Users users
 leave_in_short (leave.Last closed) = left.Last

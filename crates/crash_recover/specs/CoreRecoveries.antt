@@ -1,14 +1,13 @@
 -- What a recovery of a core answers and leaves (`rproc_trigger_recovery` of Linux remoteproc_core.c; the faults and their order, and what becomes of the callers, are own).
 use Rattle.std.specs.Prelude.{ℕ, ◌+◌, ◌==◌, Bool, true, false, not, ◌&&◌, List, Option, Some, None, Ok, option_map, option_and_then, if◌then◌else◌}
 use Rattle.std.specs.Option.{option_or}
-use Rattle.rp_base.specs.declared.kinds.LifeState.{LifeState}
+use Rattle.std.specs.Result.{result_err}
 use Rattle.rp_base.specs.declared.kinds.LifeState.TheVariants.{Running}
 use Rattle.rp_io.specs.Images.{ImageAnswer, text_name}
 use Rattle.resource_table.specs.declared.entries.Ring.{Ring}
 use Rattle.fw_load.specs.declared.rings.RingPair.{RingPair}
-use Rattle.proc_state.specs.Lives.{CoreLife, life_after_recovery, line_of, most}
+use Rattle.proc_state.specs.Lives.{CoreLife, life_after_recovery, recovery_fault}
 use Rattle.proc_state.specs.declared.answers.LifeFault.{LifeFault}
-use Rattle.proc_state.specs.declared.answers.LifeFault.TheVariants as life_fault
 use Rattle.crash_recover.specs.declared.core_answers.Start.{Start}
 use Rattle.crash_recover.specs.declared.core_answers.Start.TheVariants as start
 use Rattle.crash_recover.specs.declared.core_faults.StartFault.{StartFault}
@@ -19,15 +18,6 @@ use Rattle.link_bench.specs.BenchCrashes.{after_reopen}
 use Rattle.link_bench.specs.BenchEnds.{bench_to_reopen, reopen_refusal_of}
 use Rattle.crash_recover.specs.CoreBoots.{image_fault, load_in}
 use Rattle.crash_recover.specs.Cores.{CoreOutcome, CoreState, LoadState, loaded_rings, refuse_or}
-
--- why a core is not recovered, whatever the image, by where a recovery leads from its state
-abbrev pub recovery_fault_to : Option LifeState → CoreLife → Option LifeFault
-recovery_fault_to None life = Some life_fault.NotCrashed
-recovery_fault_to (Some state) life = if life.recovery then None else Some life_fault.RecoveryOff
-
--- why a core is not recovered, whatever the image: it isn't crashed, or its recovery is off
-abbrev pub recovery_fault : CoreLife → Option LifeFault
-recovery_fault life = recovery_fault_to (line_of life.state).recovery life
 
 -- whether two rings are the same
 abbrev pub same_ring : Ring → Ring → Bool
@@ -57,22 +47,18 @@ rings_fault core given = if same_rings (loaded_rings core.loaded) given.rings th
 abbrev pub reload_fault : CoreState → ImageAnswer → Option StartFault
 reload_fault core found = option_or (image_fault core found) (rings_fault core (load_in core found))
 
--- no incarnation is left
-abbrev pub spent_fault : Bool → Option StartFault
-spent_fault is_spent = if is_spent then Some (start_fault.Life life_fault.IncarnationsSpent) else None
-
--- why a link is not reopened for a core: something keeps it from being reopened, or no incarnation is left
-abbrev pub link_fault : BenchState → Bool → Option StartFault
-link_fault bench is_spent = option_or (option_map start_fault.Reopen (reopen_refusal_of bench)) (spent_fault is_spent)
+-- why a link is not reopened for a core: something keeps it from being reopened, or else this keeps the core's life from being recovered
+abbrev pub link_fault : BenchState → Option LifeFault → Option StartFault
+link_fault bench why = option_or (option_map start_fault.Reopen (reopen_refusal_of bench)) (option_map start_fault.Life why)
 
 -- the same of a core that may have none
-abbrev pub fault_with : Option BenchState → Bool → Option StartFault
-fault_with None is_spent = spent_fault is_spent
-fault_with (Some bench) is_spent = link_fault bench is_spent
+abbrev pub fault_with : Option BenchState → Option LifeFault → Option StartFault
+fault_with None why = option_map start_fault.Life why
+fault_with (Some bench) why = link_fault bench why
 
--- why a core is not started again: its link is not reopened, or no incarnation is left
+-- why a core that may be recovered is not started again: its link is not reopened, or no incarnation is left
 abbrev pub reopen_fault : CoreState → Option StartFault
-reopen_fault core = fault_with core.bench (core.life.incarnation == most)
+reopen_fault core = fault_with core.bench (result_err (life_after_recovery core.life).answer)
 
 -- the core when its link was to be reopened: as soon as caller 0 is reclaimed there is a new host caller
 abbrev pub core_to_reopen : CoreState → CoreState
@@ -108,6 +94,6 @@ recovery_of core found =
       answer = Ok (start.Running (life_after_recovery core.life).life.incarnation);
     })))
 
--- the name under which a store is asked for the image that was booted or handed over
+-- the name under which a store is asked for the image that was booted or handed over (own)
 abbrev pub asked_text : Option (List ℕ) → Option (List ℕ)
 asked_text booted = option_and_then text_name booted

@@ -9,14 +9,15 @@ use rp_base::{CallerNo, NoMemory};
 use std::alloc::Global;
 
 /// How many callers of its link are a core's own: 0, that of its drivers, and 1, that of its worker.
-const OWN_CALLERS: CallerNo = 2;
+pub const OWN_CALLERS: CallerNo = 2;
 
 impl Core {
     /// Does an act on the core's link, as on any link, but its own callers are not there. Its drivers
     /// see how the calls of host callers end: what one sends is the last of the host actor's calls.
     /// There is no answer exactly where the core has no link.
     ///
-    /// Errors: only for want of memory, where a driver sends.
+    /// Errors: only for want of memory, which comes before a call, steps or a turn whose end the drivers
+    /// may see.
     pub fn act(
         &mut self,
         _alloc: Global,

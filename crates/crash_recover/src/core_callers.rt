@@ -3,6 +3,7 @@ ghost use Rattle.link_bench.specs.Benches.{HoldsReachTaken, link_in};
 ghost use Rattle.link_bench.specs.BenchRings.{IsSnapshotFault};
 ghost use Rattle.crash_recover.specs.CoreCallers.{IsStepFault, after_core_reclaim, core_begin_fault, core_channels, core_receiver, core_reclaim_answer, core_snapshot, core_step, core_step_fault, core_turn_holder, is_own, new_caller, with_core_call, with_core_caller};
 
+use crate::core_acts::OWN_CALLERS;
 use crate::cores::Core;
 use lane_model::Wish;
 use link_bench::{BenchFault, Reach, Reclaim};
@@ -158,5 +159,5 @@ impl Core {
 fn is_own(caller: CallerNo) -> bool
     ensures { result ≡ is_own caller }
 {
-    caller < 2
+    caller < OWN_CALLERS
 }

@@ -14,7 +14,8 @@ impl Core {
     /// incarnation of its link and ends all remote callers; as soon as caller 1 is gone, a new remote
     /// caller is made. Its users and its memory stay.
     ///
-    /// Errors: [`LifeFault::NotPowered`] exactly where the core is offline or detached.
+    /// Errors: [`LifeFault::NotPowered`] exactly where the core is offline or detached. The core is as it
+    /// was then.
     pub fn report(&mut self, kind: CrashKind) -> Result<Report, LifeFault>
         ensures answer { result ≡ result_map_both report_in_short (λ why. why) (report_of true self.old).answer }
         ensures left { self.new ≡ after_report self.old }
@@ -22,8 +23,11 @@ impl Core {
         Ok(self.report_within(kind, true)?.report())
     }
 
-    /// The same, where a step may be taken or not: the close of a link is one. Where it may not, the
-    /// answer is [`Crash::Limit`], and the core is as it was.
+    /// [`Core::report`], where a step may be taken or not: the close of a link is one. Where it may not,
+    /// the answer is [`Crash::Limit`], and the core is as it was.
+    ///
+    /// Errors: [`LifeFault::NotPowered`] exactly where the core is offline or detached, before the step is
+    /// asked for. The core is as it was then.
     #[tactic(auto, unfolding(crate::specs::CoreCrashes::report_of))]
     pub fn report_within(&mut self, _kind: CrashKind, may_step: bool) -> Result<Crash, LifeFault>
         ensures answer { result ≡ (report_of may_step self.old).answer }

@@ -15,9 +15,7 @@ use rp_base::{CallerNo, Inc};
 impl Core {
     /// Counts one user fewer. With the last one the core goes offline: image, memory and link go.
     ///
-    /// # Errors
-    ///
-    /// [`CoreFault::Life`] where the core is neither running nor attached, then
+    /// Errors: [`CoreFault::Life`] where the core is neither running nor attached, then
     /// [`CoreFault::CallerOut`] with the least host caller other than 0 that is in a call or holds a
     /// buffer, where the last user leaves. The core is as it was then.
     pub fn shutdown(&mut self) -> Result<Left, CoreFault>
@@ -27,8 +25,12 @@ impl Core {
         Ok(self.shutdown_within(true)?.left())
     }
 
-    /// The same, where a step may be taken or not: the close of a live link is one. Where it may not,
-    /// the answer is [`Leave::Limit`], and the core is as it was.
+    /// [`Core::shutdown`], where a step may be taken or not: the close of a live link is one. Where it
+    /// may not, the answer is [`Leave::Limit`], and the core is as it was.
+    ///
+    /// Errors, before the step is asked for: [`LeaveFault::Life`] where the core is neither running nor
+    /// attached, then [`LeaveFault::CallerOut`] with the least host caller other than 0 that is in a call
+    /// or holds a buffer, where the last user leaves. The core is as it was then.
     #[tactic(auto, unfolding(crate::specs::CoreLeaves::shutdown_of))]
     pub fn shutdown_within(&mut self, may_step: bool) -> Result<Leave, LeaveFault>
         ensures answer { result ≡ (shutdown_of may_step self.old).answer }
@@ -86,8 +88,11 @@ impl Core {
         Ok(self.detach_within(true)?.left())
     }
 
-    /// The same, where a step may be taken or not: the close of a live link is one. Where it may not,
-    /// the answer is [`Leave::Limit`], and the core is as it was.
+    /// [`Core::detach`], where a step may be taken or not: the close of a live link is one. Where it may
+    /// not, the answer is [`Leave::Limit`], and the core is as it was.
+    ///
+    /// Errors, before the step is asked for: [`LeaveFault::Life`] where the core isn't attached, then
+    /// [`LeaveFault::CallerOut`] as [`Core::shutdown_within`] answers it. The core is as it was then.
     #[tactic(auto, unfolding(crate::specs::CoreLeaves::detach_of))]
     pub fn detach_within(&mut self, may_step: bool) -> Result<Leave, LeaveFault>
         ensures answer { result ≡ (detach_of may_step self.old).answer }

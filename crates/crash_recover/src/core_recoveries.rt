@@ -3,14 +3,14 @@ ghost use Rattle.std.specs.Result.{result_err, result_map_both};
 ghost use Rattle.rp_io.specs.Causes.{Rose};
 ghost use Rattle.rp_io.specs.Images.{ImageAnswer, IsToldFor, IsStoreFault, answer_of};
 ghost use Rattle.rp_io.specs.declared.faults.FetchFault.TheVariants as fetch;
-ghost use Rattle.proc_state.specs.Lives.{life_after_recovery};
+ghost use Rattle.proc_state.specs.Lives.{life_after_recovery, recovery_fault};
 ghost use Rattle.crash_recover.specs.declared.core_answers.Start.TheVariants as start;
 ghost use Rattle.crash_recover.specs.declared.core_faults.CoreFault.TheVariants as fault;
 ghost use Rattle.crash_recover.specs.Cores.{IsSoundLoad, load_view, loaded_rings};
 ghost use Rattle.crash_recover.specs.CoreBoots.{DidWith, as_unit, core_fault_of_start, in_short, load_in};
 ghost use Rattle.link_bench.specs.BenchCrashes.{after_reopen};
 ghost use Rattle.link_bench.specs.BenchEnds.{bench_to_reopen};
-ghost use Rattle.crash_recover.specs.CoreRecoveries.{after_recovery, asked_text, core_to_reopen, fault_with, link_fault, recovery_fault, recovery_of, reload_fault, reopen_fault, same_pair, same_ring, same_rings, spent_fault};
+ghost use Rattle.crash_recover.specs.CoreRecoveries.{after_recovery, asked_text, core_to_reopen, fault_with, link_fault, recovery_of, reload_fault, reopen_fault, same_pair, same_ring, same_rings};
 
 use crate::core_answers::Start;
 use crate::core_boots::unit_of;
@@ -20,7 +20,7 @@ use fw_load::{Loaded, RingPair};
 use link_bench::Bench;
 use proc_state::LifeFault;
 use resource_table::Ring;
-use rp_base::{Inc, LifeState, NoMemory};
+use rp_base::NoMemory;
 use rp_io::{FirmwareStore, NoImage, StoreFault, bytes_of, look_up_bytes};
 use std::alloc::Global;
 
@@ -30,20 +30,16 @@ impl Core {
     pub fn recovery_fault(&self) -> Option<LifeFault>
         ensures { result ≡ recovery_fault self.now.life }
     {
-        match self.life.state() {
-            LifeState::Crashed if self.life.recovery() => None,
-            LifeState::Crashed => Some(LifeFault::RecoveryOff),
-            LifeState::Offline | LifeState::Running | LifeState::Attached | LifeState::Detached =>
-                Some(LifeFault::NotCrashed),
-        }
+        self.life.recovery_fault()
     }
 
     /// Recovers the core with the image that a store has under the name that was booted or handed over.
     /// Where the core's life refuses it, the store is not asked.
     ///
-    /// Errors: [`CoreFault::Life`] as [`Core::recovery_fault`] answers, [`CoreFault::Fetch`] where the
-    /// store has no image or failed, then the refusals of [`Core::recover_image`], and
-    /// [`CoreFault::NoMemory`]. A name that is no text is [`rp_io::FetchFault::Missing`].
+    /// Errors: [`CoreFault::Life`] as [`Core::recovery_fault`] answers, then [`CoreFault::Fetch`] where
+    /// the store has no image or failed: the core is as it was then. A name that is no text is
+    /// [`rp_io::FetchFault::Missing`]. Then the refusals of [`Core::recover_image`], and
+    /// [`CoreFault::NoMemory`]: the core is as it was then, or still crashed with a new caller 0.
     pub fn recover<F: FirmwareStore>(
         &mut self,
         alloc: Global,
@@ -98,7 +94,8 @@ impl Core {
     /// [`StartFault::Life`] where no incarnation is left: the core stays crashed, with a new caller 0
     /// where the old one was reclaimed.
     ///
-    /// Errors: want of memory, which may come at the load, or after all other tests.
+    /// Errors: want of memory, which may come at the load, or after all other tests. The core is as it
+    /// was then, or still crashed with a new caller 0.
     #[tactic(auto, unfolding(crate::specs::CoreRecoveries::recovery_of))]
     pub fn recover_image(
         &mut self,
@@ -149,7 +146,7 @@ impl Core {
     }
 
     /// Reopens the link of a core, where it has one, and starts the core again with what an image
-    /// became, unless no incarnation is left.
+    /// became, unless its life refuses it: no incarnation is left.
     fn restart(
         &mut self,
         alloc: Global,
@@ -164,62 +161,54 @@ impl Core {
         ensures memory { OnErr result (self.new ≡ core_to_reopen self.old) }
         ensures last { OnErr result (reopen_fault self.old ≡ None) }
     {
-        let is_spent = self.life.incarnation() == Inc::MAX;
-        if let Some(fault) = reopen_link(&mut self.bench, alloc, is_spent)? {
+        let mut life = self.life.copy();
+        let life_fault = life.recover().err();
+        if let Some(fault) = reopen_link(&mut self.bench, alloc, life_fault)? {
             return Ok(Err(fault));
         }
-        let _ = self.life.recover();
+        self.life = life;
         self.actors.restart(loaded.entry);
         self.loaded = Some(loaded);
         Ok(Ok(Start::Running(self.life.incarnation())))
     }
 }
 
-/// Why a core is not recovered where no incarnation is left.
-fn spent_fault(is_spent: bool) -> Option<StartFault>
-    ensures { result ≡ spent_fault is_spent }
-{
-    if is_spent {
-        return Some(StartFault::Life(LifeFault::IncarnationsSpent));
-    }
-    None
-}
-
-/// Reopens the link of a core with a new caller 0, where there is one, unless no incarnation is left.
+/// Reopens the link of a core with a new caller 0, where there is one, unless this keeps the core's life
+/// from being recovered.
 fn reopen_link(
     link: &mut Option<Bench>,
     alloc: Global,
-    is_spent: bool,
+    life_fault: Option<LifeFault>,
 ) -> Result<Option<StartFault>, NoMemory>
-    ensures refused { IfOk result (λ refused. refused ≡ fault_with link.old is_spent) }
-    ensures left { IfOk result (λ refused. IfNone refused (link.new ≡ option_map (λ bench. after_reopen (bench_to_reopen bench)) link.old)) }
-    ensures ready { IfOk result (λ refused. IfSome refused (λ _. link.new ≡ option_map bench_to_reopen link.old)) }
+    ensures refused { IfOk result (λ fault. fault ≡ fault_with link.old life_fault) }
+    ensures left { IfOk result (λ fault. IfNone fault (link.new ≡ option_map (λ bench. after_reopen (bench_to_reopen bench)) link.old)) }
+    ensures ready { IfOk result (λ fault. IfSome fault (λ _. link.new ≡ option_map bench_to_reopen link.old)) }
     ensures memory { OnErr result (link.new ≡ option_map bench_to_reopen link.old) }
-    ensures last { OnErr result (fault_with link.old is_spent ≡ None) }
+    ensures last { OnErr result (fault_with link.old life_fault ≡ None) }
 {
     match link {
-        Some(bench) => reopen_bench(bench, alloc, is_spent),
-        None => Ok(spent_fault(is_spent)),
+        Some(bench) => reopen_bench(bench, alloc, life_fault),
+        None => Ok(life_fault.map(StartFault::Life)),
     }
 }
 
-/// Reopens a link with a new caller 0, unless no incarnation is left.
+/// Reopens a link with a new caller 0, unless this keeps its core's life from being recovered.
 fn reopen_bench(
     bench: &mut Bench,
     alloc: Global,
-    is_spent: bool,
+    life_fault: Option<LifeFault>,
 ) -> Result<Option<StartFault>, NoMemory>
-    ensures refused { IfOk result (λ refused. refused ≡ link_fault bench.old is_spent) }
-    ensures left { IfOk result (λ refused. IfNone refused (bench.new ≡ after_reopen (bench_to_reopen bench.old))) }
-    ensures ready { IfOk result (λ refused. IfSome refused (λ _. bench.new ≡ bench_to_reopen bench.old)) }
+    ensures refused { IfOk result (λ fault. fault ≡ link_fault bench.old life_fault) }
+    ensures left { IfOk result (λ fault. IfNone fault (bench.new ≡ after_reopen (bench_to_reopen bench.old))) }
+    ensures ready { IfOk result (λ fault. IfSome fault (λ _. bench.new ≡ bench_to_reopen bench.old)) }
     ensures memory { OnErr result (bench.new ≡ bench_to_reopen bench.old) }
-    ensures last { OnErr result (link_fault bench.old is_spent ≡ None) }
+    ensures last { OnErr result (link_fault bench.old life_fault ≡ None) }
 {
     if let Some(fault) = bench.renew_host() {
         return Ok(Some(StartFault::Reopen(fault)));
     }
-    if let Some(fault) = spent_fault(is_spent) {
-        return Ok(Some(fault));
+    if let Some(fault) = life_fault {
+        return Ok(Some(StartFault::Life(fault)));
     }
     match bench.reopen(alloc) {
         Ok(_) => Ok(None),

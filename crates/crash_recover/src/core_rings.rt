@@ -15,7 +15,10 @@ use std::alloc::Global;
 impl Core {
     /// The bytes of a lane's ring of the core's link as it lies in memory, over the buffers that its
     /// image's device for RPMsg was given: lane 0 to the host, 1 to the remote. There are none exactly
-    /// where the core has no link, or what it loaded no rings. No turn of its link is out.
+    /// where the core has no link, or what it loaded no rings. No turn of its link is out. The core stays as
+    /// it is.
+    ///
+    /// Errors: only for want of memory.
     pub fn ring_bytes(&mut self, alloc: Global, lane: u64) -> Result<Option<Vec<u8>>, NoMemory>
         requires { core_turn_holder self.old ≡ None }
         ensures same { self.new ≡ self.old }

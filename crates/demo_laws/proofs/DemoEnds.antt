@@ -53,20 +53,21 @@ use Rattle.proc_state.specs.declared.answers.Power.{Power}
 use Rattle.proc_state.specs.declared.answers.Power.TheVariants as power
 use Rattle.crash_recover.specs.declared.core_faults.AddFault.TheVariants as add
 use Rattle.image_maker.specs.Demo.{session_image}
+use Rattle.link_commands.specs.declared.acts.CoreAct.{CoreAct}
 use Rattle.link_commands.specs.declared.acts.CoreAct.TheVariants as act
+use Rattle.link_commands.specs.declared.acts.Line.TheVariants as line
 use Rattle.link_commands.specs.declared.acts.StartAct.TheVariants as start_act
 use Rattle.link_commands.specs.declared.acts.Making.TheVariants as making
-use Rattle.link_commands.specs.declared.acts.NamedAct.{NamedAct}
 use Rattle.link_commands.specs.declared.acts.NamedAct.TheVariants as under
 use Rattle.command_run.specs.CoreCommands.{core_act_effect, core_effect, driver_effect_unless, driver_effect}
 use Rattle.link_commands.specs.LinkCommands.{link_effect}
-use Rattle.link_commands.specs.NamedLinks.{NamedLink}
 use Rattle.command_run.specs.Stores.{store_of}
 use Rattle.script_run.specs.Demos.{bare_effect}
-use Rattle.command_run.specs.Runs.{ObjectsState, Run, RunEffect, RunState, effect_by_core_place, core_made_effect, core_place, effect_of, effect_of_core, effect_of_link, has_image, image_effect, is_full, effect_by_link_place, name_effect, new_run, place_of, quiet_effect, run_from, run_of, run_tells, unnamed_effect, with_image, without_link_effect}
+use Rattle.command_run.specs.Runs.{ObjectsState, Run, RunEffect, RunState, core_effect_at, effect_of, new_run, quiet_effect, run_from, run_of, run_tells}
 use Rattle.script_run.proofs.DemoSums.{bare_is, goes_on as goes_on_run}
 use Rattle.command_run.proofs.RunSteps.{run_none}
 use Rattle.run_laws.specs.Drives.{after_steps, drive_made, rests}
+use Rattle.run_laws.proofs.CommandWalks.{ActsOnCore, ActsOnLink, CommandOutcome, FindsImage, MakesCore, MakesImage, NamesNothing, outcome}
 use Rattle.run_laws.proofs.RunWalks.{item_at}
 use Rattle.run_laws.proofs.ScriptDrives.{awake, drive_as, steps_keep}
 use Rattle.fw_load.specs.Loading.{Loads, load_fault}
@@ -378,36 +379,48 @@ module _ (Fits : WorkerState → Type 0) (records credit : WorkerState → ℕ) 
   run_told_calm : (run : RunState) (within : ℕ) (told : Event) → AreCalm run.objects → LeavesRun run.steps within (run_tells run told)
   run_told_calm run within told are = record { calm = are; ending = refl; steps = omega arith }
 
-  -- a command on what has its name
-  module _ (run : RunState) (called : List ℕ) (wanted : NamedAct (List ℕ)) (within : ℕ) (are : AreCalm run.objects)
-      (on_link : (named : NamedLink) → ((link_effect named run.steps wanted).ending ≡ None) × ((link_effect named run.steps wanted).steps ≡ run.steps))
-      (on_core : (named : NamedCoreState) → IsCalm named.core → LeavesCalm run.steps within (core_effect run.objects.images (Err no_image.Missing) run.objects.is_quiet named run.steps wanted))
-      (on_none : LeavesRun run.steps within (unnamed_effect run called wanted)) where
-    core_at : (place : ℕ) (found : Option NamedCoreState) → slice_get run.objects.cores place ≡ found → LeavesRun run.steps within (effect_of_core (Err no_image.Missing) run called wanted place found)
-    core_at place None none = on_none
-    core_at place (Some named) found =
-        let left = on_core named (item_at (λ (named : NamedCoreState). IsCalm named.core) run.objects.cores place named found are.cores) in record {
+  -- whatever the outcome of a command is
+  module _ (run : RunState) (within : ℕ) (are : AreCalm run.objects) where
+    -- an act leaves the core at a place calm
+    core_calm : (place : ℕ) (named : NamedCoreState) (effect : CoreEffect) → slice_get run.objects.cores place ≡ Some named → (IsCalm named.core → LeavesCalm run.steps within effect)
+        → LeavesRun run.steps within (core_effect_at run place named effect)
+    core_calm place named effect found leaves =
+        let left = leaves (item_at (λ (named : NamedCoreState). IsCalm named.core) run.objects.cores place named found are.cores) in record {
           calm = record { cores = All-set (λ (named : NamedCoreState). IsCalm named.core) run.objects.cores place _ left.calm are.cores; images = are.images };
           ending = left.ending;
           steps = left.steps;
         }
 
-    core_located : (place : Option ℕ) → LeavesRun run.steps within (effect_by_core_place (Err no_image.Missing) run called wanted place)
-    core_located None = on_none
-    core_located (Some place) = core_at place (slice_get run.objects.cores place) refl
+    -- an act on a core, which its name may have, or a link, or nothing
+    act_calm : (asked : CoreAct) → ((named : NamedCoreState) → IsCalm named.core → LeavesCalm run.steps within (core_act_effect run.objects.images (Err no_image.Missing) run.objects.is_quiet named run.steps asked))
+        → {name : List ℕ} {effect : RunEffect} → CommandOutcome (Err no_image.Missing) run (line.On name (under.Core asked)) effect → LeavesRun run.steps within effect
+    unfolding link_effect core_effect
+    act_calm asked leaves (ActsOnCore name wanted place named at) = core_calm place named _ at.found (leaves named)
+    act_calm asked leaves (ActsOnLink name wanted place named at) = record { calm = record { cores = are.cores; images = are.images }; ending = refl; steps = omega arith }
+    act_calm asked leaves (NamesNothing name wanted none) = run_told_calm run within _ are
 
-    without_link : LeavesRun run.steps within (without_link_effect (Err no_image.Missing) run called wanted)
-    unfolding without_link_effect
-    without_link = core_located (core_place run.objects.cores called)
+    -- a core and an image that are made, or are not
+    core_made : {name : List ℕ} {book : ℕ} {effect : RunEffect} → CommandOutcome (Err no_image.Missing) run (line.On name (under.Make (making.Core regions.Standard book))) effect → LeavesRun run.steps within effect
+    unfolding link_effect core_effect
+    core_made (MakesCore name set book none) = record {
+      calm = record {
+        cores = All-push (λ (named : NamedCoreState). IsCalm named.core) run.objects.cores _ are.cores (record { regions = refl; own = refl; runs = λ running. absurd (true≢false (ap is_up (sym running))) });
+        images = are.images;
+      };
+      ending = refl;
+      steps = omega arith;
+    }
+    core_made (ActsOnCore name wanted place named at) = core_calm place named _ at.found (told_calm named.core run.steps within _)
+    core_made (ActsOnLink name wanted place named at) = record { calm = record { cores = are.cores; images = are.images }; ending = refl; steps = omega arith }
+    core_made came = run_told_calm run within _ are
 
-    link_at : (place : ℕ) (found : Option NamedLink) → LeavesRun run.steps within (effect_of_link (Err no_image.Missing) run called wanted place found)
-    link_at place None = without_link
-    link_at place (Some named) =
-        let left = on_link named in record { calm = record { cores = are.cores; images = are.images }; ending = left.0; steps = omega (arith, left.1) }
-
-    located : (place : Option ℕ) → LeavesRun run.steps within (effect_by_link_place (Err no_image.Missing) run called wanted place)
-    located None = without_link
-    located (Some place) = link_at place (slice_get run.objects.links place)
+    image_made : (reply : ℕ) → reply < 497 → {name : List ℕ} {effect : RunEffect} → CommandOutcome (Err no_image.Missing) run (line.Image name (worker_lines reply)) effect → LeavesRun run.steps within effect
+    image_made reply small (MakesImage name lines) = record {
+      calm = record { cores = are.cores; images = All-push (λ (image : ImageState). IsDemoImage image.bytes) run.objects.images _ are.images (reply, small, refl) };
+      ending = refl;
+      steps = omega arith;
+    }
+    image_made reply small (FindsImage name lines) = run_told_calm run within _ are
 
   abbrev Leaves : Command → ℕ → Type 0
   Leaves wanted within = (run : RunState) → AreCalm run.objects → run.steps + within ≤ STEPS_MOST → LeavesRun run.steps within (effect_of (Err no_image.Missing) run wanted)
@@ -416,63 +429,32 @@ module _ (Fits : WorkerState → Type 0) (records credit : WorkerState → ℕ) 
   unfolding effect_of quiet_effect
   quiet_leaves set run are few = record { calm = record { cores = are.cores; images = are.images }; ending = refl; steps = omega arith }
 
-  core_made : (name : List ℕ) (book : ℕ) (run : RunState) → AreCalm run.objects → LeavesRun run.steps 0 (core_made_effect run name regions.Standard book)
-  unfolding core_made_effect
-  core_made name book run are =
-      cond_both (is_full run.objects) (run_tells run event.ObjectsFull) _ (LeavesRun run.steps 0) (λ _. run_told_calm run 0 _ are)
-      (λ _. record {
-        calm = record {
-          cores = All-push (λ (named : NamedCoreState). IsCalm named.core) run.objects.cores _ are.cores (record { regions = refl; own = refl; runs = λ running. absurd (true≢false (ap is_up (sym running))) });
-          images = are.images;
-        };
-        ending = refl;
-        steps = omega arith;
-      })
-
   core_leaves : (name : List ℕ) (book : ℕ) → Leaves (command.Core name regions.Standard book) 0
-  unfolding effect_of name_effect link_effect core_effect core_act_effect unnamed_effect
-  core_leaves name book run are few =
-      located run name (under.Make (making.Core regions.Standard book)) 0 are (λ named. (refl, refl)) (λ named is. told_calm named.core run.steps 0 _ is) (core_made name book run are)
-      (place_of run.objects.links name)
+  core_leaves name book run are few = core_made run 0 are (outcome (Err no_image.Missing) run (command.Core name regions.Standard book))
 
   driver_leaves : (name channel : List ℕ) (kind : DriverKind) → Leaves (command.Driver name channel kind) 0
-  unfolding effect_of name_effect link_effect core_effect core_act_effect unnamed_effect
+  unfolding core_act_effect
   driver_leaves name channel kind run are few =
-      located run name (under.Core (act.Driver channel kind)) 0 are (λ named. (refl, refl)) (λ named is. driver_calm named.name named.core run.steps is channel kind) (run_told_calm run 0 _ are)
-      (place_of run.objects.links name)
+      act_calm run 0 are (act.Driver channel kind) (λ named is. driver_calm named.name named.core run.steps is channel kind) (outcome (Err no_image.Missing) run (command.Driver name channel kind))
 
   boot_leaves : (name image : List ℕ) → Leaves (command.Boot name image) 0
-  unfolding effect_of name_effect link_effect core_effect core_act_effect unnamed_effect
+  unfolding core_act_effect
   boot_leaves name image run are few =
-      located run name (under.Core (act.Start (start_act.Boot image))) 0 are (λ named. (refl, refl)) (λ named is. boot_calm named.name image named.core run.steps is run.objects.images are.images) (run_told_calm run 0 _ are)
-      (place_of run.objects.links name)
+      act_calm run 0 are (act.Start (start_act.Boot image)) (λ named is. boot_calm named.name image named.core run.steps is run.objects.images are.images)
+      (outcome (Err no_image.Missing) run (command.Boot name image))
 
   drive_leaves : (name : List ℕ) (count : ℕ) → Leaves (command.Drive name count) 7999
-  unfolding effect_of name_effect link_effect core_effect core_act_effect unnamed_effect
+  unfolding core_act_effect
   drive_leaves name count run are few =
-      located run name (under.Core (act.Drive count)) 7999 are (λ named. (refl, refl)) (λ named is. drive_calm named.name run.objects.is_quiet named.core run.steps count is few) (run_told_calm run 7999 _ are)
-      (place_of run.objects.links name)
+      act_calm run 7999 are (act.Drive count) (λ named is. drive_calm named.name run.objects.is_quiet named.core run.steps count is few) (outcome (Err no_image.Missing) run (command.Drive name count))
 
   shutdown_leaves : (name : List ℕ) → Leaves (command.Shutdown name) 1
-  unfolding effect_of name_effect link_effect core_effect core_act_effect unnamed_effect
+  unfolding core_act_effect
   shutdown_leaves name run are few =
-      located run name (under.Core act.Shutdown) 1 are (λ named. (refl, refl)) (λ named is. shutdown_calm named.name named.core run.steps is few) (run_told_calm run 1 _ are)
-      (place_of run.objects.links name)
-
-  imaged : (name : List ℕ) (reply : ℕ) (run : RunState) → reply < 497 → AreCalm run.objects → LeavesRun run.steps 0 (image_effect run name (worker_lines reply))
-  unfolding image_effect
-  imaged name reply run small are =
-      cond_both (has_image run.objects.images name) (run_tells run (event.ImageExists name))
-      (run_tells (with_image run name (image_of (worker_lines reply))) (event.Image name (length (image_of (worker_lines reply))))) (LeavesRun run.steps 0) (λ _. run_told_calm run 0 _ are)
-      (λ _. record {
-        calm = record { cores = are.cores; images = All-push (λ (image : ImageState). IsDemoImage image.bytes) run.objects.images _ are.images (reply, small, refl) };
-        ending = refl;
-        steps = omega arith;
-      })
+      act_calm run 1 are act.Shutdown (λ named is. shutdown_calm named.name named.core run.steps is few) (outcome (Err no_image.Missing) run (command.Shutdown name))
 
   image_leaves : (name : List ℕ) (reply : ℕ) → reply < 497 → Leaves (command.Image name (worker_lines reply)) 0
-  unfolding effect_of
-  image_leaves name reply small run are few = imaged name reply run small are
+  image_leaves name reply small run are few = image_made run 0 are reply small (outcome (Err no_image.Missing) run (command.Image name (worker_lines reply)))
 
   -- ---- runs
 

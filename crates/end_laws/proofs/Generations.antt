@@ -2,7 +2,8 @@
 use Rattle.std.proofs.Common.{◌⊎◌, ℕ, ◌+◌, ◌<◌, ◌≤◌, List, [], ◌∷◌, arith}
 use Rattle.std.proofs.Common.{inl, inr}
 use Rattle.rp_base.specs.declared.kinds.BoundEndpoint.{BoundEndpoint}
-use Rattle.lane_model.specs.Desks.{IsBound, KeepsBound}
+use Rattle.lane_model.specs.Desks.{IsBound}
+use Rattle.lane_model.proofs.KeptBindings.{KeepsBound, bound_keeps, delivered_keeps, unbound_keeps}
 use Rattle.channel_bus.specs.Sides.{EndState, side_meaning}
 use Rattle.channel_bus.specs.Laws.{side_laws}
 use Rattle.end_laws.specs.Changes.{EndChange, Bind, Unbind, Deliver, end_after, end_after_all, AreCounted}
@@ -24,9 +25,9 @@ kept_rises before after handed kept = record {
 }
 
 change_rises : (side : EndState) (change : EndChange) → Rises side (end_after side change)
-change_rises side (Bind address since) = kept_rises side (side_meaning.bound side address since) since (side_laws.bound side address since)
-change_rises side (Unbind address) = record { counts = side_laws.unbound_counts side address; bound = λ one is. inl (side_laws.unbound side address one is) }
-change_rises side (Deliver number message) = kept_rises side (side_meaning.delivered side number message) (number + 1) (side_laws.delivered side number message)
+change_rises side (Bind address since) = kept_rises side (side_meaning.bound side address since) since (bound_keeps side_meaning side_laws side address since)
+change_rises side (Unbind address) = kept_rises side (side_meaning.unbound side address) 0 (unbound_keeps side_meaning side_laws side address 0)
+change_rises side (Deliver number message) = kept_rises side (side_meaning.delivered side number message) (number + 1) (delivered_keeps side_meaning side_laws side number message)
 
 changes_rise : (side : EndState) (changes : List EndChange) → Rises side (end_after_all side changes)
 changes_rise side [] = record { counts = omega arith; bound = λ one is. inl is }

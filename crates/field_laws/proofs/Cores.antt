@@ -3,7 +3,7 @@ use Rattle.std.proofs.Common.{◌≡◌, ℕ, zero, suc, ◌+◌, ◌-◌, ◌<�
 use Rattle.std.specs.Prelude.{All, fold, nat_lt}
 use Rattle.std.specs.List.{range_with_len}
 use Rattle.std.specs.Option.{option_and_then, option_map, option_or}
-use Rattle.std.specs.Result.{IfOk}
+use Rattle.std.specs.Result.{IfOk, result_err}
 use Rattle.std.proofs.lemmas.Bool.{cond_both, eqb-false, true≢false}
 use Rattle.std.proofs.lemmas.List.Elements.{All-cons, All-head, All-nil, All-tail}
 use Rattle.rp_io.specs.Images.{ImageAnswer}
@@ -19,7 +19,7 @@ use Rattle.proc_state.specs.declared.answers.Power.{Power}
 use Rattle.proc_state.specs.declared.answers.Power.TheVariants as power
 use Rattle.proc_state.specs.declared.answers.Report.{Report}
 use Rattle.proc_state.specs.declared.answers.Report.TheVariants as report
-use Rattle.proc_state.specs.Lives.{CoreLife, Outcome, boot_to, crash_as, first_start, handover_to, is_offline, is_up, leave_to, life_after_boot, life_after_crash, life_after_detach, life_after_handover, life_after_shutdown, line_of, most, new_life, recovery_to, refusal_of, with_user}
+use Rattle.proc_state.specs.Lives.{CoreLife, Outcome, boot_to, crash_as, first_start, handover_to, is_offline, is_up, leave_to, life_after_boot, life_after_crash, life_after_detach, life_after_handover, life_after_recovery, life_after_shutdown, line_of, most, new_life, recovery_fault, recovery_state, recovery_to, refusal_of, with_user}
 use Rattle.memory_pool.specs.declared.regions.Region.{Region}
 use Rattle.memory_pool.specs.Soundness.{SoundRegions}
 use Rattle.fw_load.specs.declared.faults.LoadFault.{LoadFault}
@@ -50,11 +50,11 @@ use Rattle.crash_recover.specs.declared.core_faults.StartFault.TheVariants as st
 use Rattle.crash_recover.specs.CoreBoots.{boot_as, boot_of, config_of, core_bench, first_boot, fresh_end, handover_as, handover_of, image_fault, load_in, started_core, with_load}
 use Rattle.crash_recover.specs.CoreCrashes.{crashed_core, first_report, report_as, report_of}
 use Rattle.crash_recover.specs.CoreLeaves.{close_or, detach_of, detached_core, leave_as, live_inc, shutdown_of, unloaded_core}
-use Rattle.crash_recover.specs.CoreRecoveries.{core_to_reopen, fault_with, recovery_fault, recovery_fault_to, recovery_of, reload_fault, reopen_fault, rings_fault, spent_fault}
+use Rattle.crash_recover.specs.CoreRecoveries.{core_to_reopen, fault_with, recovery_of, reload_fault, reopen_fault, rings_fault}
 use Rattle.crash_recover.specs.Cores.{CoreOutcome, CoreState, loaded_rings, new_core, refuse_or}
 use Rattle.core_laws.specs.BenchMoves.{IsReachedBench, IsReachedCore}
 use Rattle.core_laws.proofs.CoreMoves.{readied}
-use Rattle.core_laws.proofs.Outcomes.{none_mapped}
+use Rattle.crash_recover.proofs.Restarts.{restarts}
 use Rattle.crash_recover.proofs.SameLives.{starts_up}
 use Rattle.core_laws.proofs.CrashReclaims.{reached_sound}
 use Rattle.field_laws.specs.Fields.{AreBytes, IsFieldLink, IsFieldWish}
@@ -123,11 +123,9 @@ crash_life : (found : Option Report) (life : CoreLife) → IsFieldLife life → 
 crash_life None life is = refusal_life Anything life_fault.NotPowered life is
 crash_life (Some told) life is = record { life = record { users = is.users; incarnation = is.incarnation }; answer = tt }
 
-recovery_life : (to : Option LifeState) (life : CoreLife) → IsFieldLife life → HoldsLife Anything (recovery_to to life)
-recovery_life None life is = refusal_life Anything life_fault.NotCrashed life is
-recovery_life (Some state) life is =
-    cond_both life.recovery (first_start state life.users tt life) (refusal_of life_fault.RecoveryOff life) (HoldsLife Anything) (λ _. first_life Anything state life.users tt life is.users tt is)
-    (λ _. refusal_life Anything life_fault.RecoveryOff life is)
+recovery_life : (to : Result LifeState LifeFault) (life : CoreLife) → IsFieldLife life → HoldsLife Anything (recovery_to to life)
+recovery_life (Err why) life is = refusal_life Anything why life is
+recovery_life (Ok state) life is = first_life Anything state life.users tt life is.users tt is
 
 pub new_life_fields : IsFieldLife new_life
 new_life_fields = record { users = omega arith; incarnation = omega arith }
@@ -165,17 +163,6 @@ handed_off Running life done is off = absurd (cc)
 handed_off Crashed life done is off = absurd (cc)
 handed_off Attached life done is off = absurd (cc)
 handed_off Detached life done is off = absurd (cc)
-
--- a core that is recovered isn't offline
-recovered_off : (state : LifeState) (life : CoreLife) → life.state ≡ state → recovery_fault_to (line_of state).recovery life ≡ None → is_offline (recovery_to (line_of state).recovery life).life.state ≡ true → ⊥
-recovered_off Offline life is none off = true≢false (ap is_some none)
-recovered_off Running life is none off = true≢false (ap is_some none)
-recovered_off Attached life is none off = true≢false (ap is_some none)
-recovered_off Detached life is none off = true≢false (ap is_some none)
-recovered_off Crashed life is none off =
-    let was : is_offline life.state ≡ true → ⊥ = λ there. true≢false (sym there ∙ ap is_offline is) in
-    was (cond_both life.recovery (first_start Running life.users tt life) (refusal_of life_fault.RecoveryOff life) (λ (out : Outcome (Unit {0})). is_offline out.life.state ≡ true → is_offline life.state ≡ true)
-    (λ _ there. first_off Running life.users tt life (λ now. true≢false (sym now)) there) (λ _ there. there) off)
 
 crash_off : (found : Option Report) (life : CoreLife) → is_offline (crash_as found life).life.state ≡ true → is_offline life.state ≡ true
 crash_off None life off = off
@@ -386,14 +373,10 @@ reopen_map : (found : Option ReopenFault) → IfSome found IsFieldReopen → IfS
 reopen_map None is = tt
 reopen_map (Some why) is = is
 
-spent_fields : (is_spent : Bool) → IfSome (spent_fault is_spent) IsFieldStartFault
-spent_fields true = tt
-spent_fields false = tt
-
-with_fields : (found : Option BenchState) (is_spent : Bool) → IfSome found IsReachedBench → IfSome found IsFieldBench → IfSome (fault_with found is_spent) IsFieldStartFault
-with_fields None is_spent reached is = spent_fields is_spent
-with_fields (Some bench) is_spent reached is =
-    or_has IsFieldStartFault (option_map start_fault.Reopen (reopen_refusal_of bench)) (spent_fault is_spent) (reopen_map (reopen_refusal_of bench) (reopen_refusal_fields bench reached is)) (spent_fields is_spent)
+with_fields : (found : Option BenchState) (why : Option LifeFault) → IfSome found IsReachedBench → IfSome found IsFieldBench → IfSome (fault_with found why) IsFieldStartFault
+with_fields None why reached is = life_fault_fields why
+with_fields (Some bench) why reached is =
+    or_has IsFieldStartFault (option_map start_fault.Reopen (reopen_refusal_of bench)) (option_map start_fault.Life why) (reopen_map (reopen_refusal_of bench) (reopen_refusal_fields bench reached is)) (life_fault_fields why)
 
 reload_fields : (core : CoreState) (found : ImageAnswer) → IfOk found AreBytes → IfSome (reload_fault core found) IsFieldStartFault
 reload_fields core found are =
@@ -419,20 +402,20 @@ image_none : (first later : Option StartFault) → option_or first later ≡ Non
 image_none None later none = refl
 image_none (Some why) later none = absurd (true≢false (ap is_some none))
 
-found_reopened : (found : Option BenchState) (is_spent : Bool) → fault_with found is_spent ≡ None → IfSome found IsFieldBench → IfSome (option_map (λ bench. after_reopen (bench_to_reopen bench)) found) IsFieldBench
-found_reopened None is_spent none is = is
-found_reopened (Some bench) is_spent none is =
-    reopen_fields (bench_to_reopen bench) (clear_at bench (link_reclaim_refusal (link_in bench) 0) (first_none (reopen_refusal_of bench) (spent_fault is_spent) none)) (ready_fields bench is)
+found_reopened : (found : Option BenchState) (why : Option LifeFault) → fault_with found why ≡ None → IfSome found IsFieldBench → IfSome (option_map (λ bench. after_reopen (bench_to_reopen bench)) found) IsFieldBench
+found_reopened None why none is = is
+found_reopened (Some bench) why none is =
+    reopen_fields (bench_to_reopen bench) (clear_at bench (link_reclaim_refusal (link_in bench) 0) (first_none (reopen_refusal_of bench) (option_map start_fault.Life why) none)) (ready_fields bench is)
 
 pub recovery_fields : (core : CoreState) (found : ImageAnswer) → IfOk found AreBytes → SoundRegions core.regions → IsReachedCore core → IsFieldCore core → HoldsOut IsFieldStart IsFieldStartFault (recovery_of core found)
 unfolding recovery_of
 recovery_fields core found are sound reached is =
-    let after = recovery_life (line_of core.life.state).recovery core.life is.life in
+    let after = recovery_life (recovery_state core.life) core.life is.life in
     let few = after.life.incarnation in
-    refused IsFieldStart IsFieldStartFault core (option_map start_fault.Life (recovery_fault core.life)) _ is (life_fault_fields (recovery_fault core.life)) (λ may.
+    refused IsFieldStart IsFieldStartFault core (option_map start_fault.Life (recovery_fault core.life)) _ is (life_fault_fields (recovery_fault core.life)) (λ _.
     refused IsFieldStart IsFieldStartFault core (reload_fault core found) _ is (reload_fields core found are) (λ reloads.
     let clear = image_none (image_fault core found) (rings_fault core (load_in core found)) reloads in
-    refused IsFieldStart IsFieldStartFault (core_to_reopen core) (reopen_fault core) _ (readied_fields core is) (with_fields core.bench (core.life.incarnation == most) reached.bench is.bench) (λ opens.
+    refused IsFieldStart IsFieldStartFault (core_to_reopen core) (reopen_fault core) _ (readied_fields core is) (with_fields core.bench (result_err (life_after_recovery core.life).answer) reached.bench is.bench) (λ opens.
     record {
       core = record {
         book = is.book;
@@ -440,8 +423,8 @@ recovery_fields core found are sound reached is =
         image = is.image;
         loaded = load_fields core found are;
         placed = load_placed core found sound clear;
-        rest = λ off. absurd (recovered_off core.life.state core.life refl (none_mapped start_fault.Life (recovery_fault core.life) may) off);
-        bench = found_reopened core.bench (core.life.incarnation == most) opens is.bench;
+        rest = λ off. absurd (true≢false (sym off ∙ ap (λ (life : CoreLife). is_offline life.state) (restarts core opens)));
+        bench = found_reopened core.bench (result_err (life_after_recovery core.life).answer) opens is.bench;
         calls = no_calls core _;
       };
       answer = omega (arith, few);

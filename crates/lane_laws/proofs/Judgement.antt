@@ -10,7 +10,8 @@ use Rattle.rp_base.specs.declared.kinds.BoundEndpoint.{BoundEndpoint}
 use Rattle.rp_base.specs.declared.kinds.Verdict.{Verdict}
 use Rattle.rp_base.specs.declared.kinds.Verdict.TheVariants as verdict
 use Rattle.lane_model.specs.declared.states.BookEntry.{BookEntry}
-use Rattle.lane_model.specs.Desks.{DeskMeaning, IsFreshDesk, bound_at, IsBound, addressee, IsNewlyBound, KeepsBound, AreDeskLaws}
+use Rattle.lane_model.specs.Desks.{DeskMeaning, IsFreshDesk, bound_at, IsBound, addressee, AreDeskLaws}
+use Rattle.lane_model.proofs.KeptBindings.{IsNewlyBound, KeepsBound}
 use Rattle.lane_laws.specs.Handings.{NumberedMessage, Handing, with_numbers, is_aimed, is_to, is_due, due, is_got, got}
 use Rattle.lane_model.proofs.Steps.{same}
 use Rattle.lane_laws.proofs.Numbering.{place_below, numbered_one_more, none_due, due_same, got_more}

@@ -9,7 +9,8 @@ use Rattle.lane_model.specs.declared.stages.Receiving.{Receiving}
 use Rattle.lane_model.specs.declared.stages.Turn.{Turn}
 use Rattle.lane_model.specs.declared.stages.Turn.TheVariants as turn
 use Rattle.lane_model.specs.declared.calls.CallEnd.TheVariants as end
-use Rattle.lane_model.specs.Desks.{DeskMeaning, KeepsBound, AreDeskLaws}
+use Rattle.lane_model.specs.Desks.{DeskMeaning, AreDeskLaws}
+use Rattle.lane_model.proofs.KeptBindings.{KeepsBound, delivered_keeps}
 use Rattle.lane_model.specs.Lanes.{message_at}
 use Rattle.lane_laws.specs.Handings.{Handing, handing_of, told_handing, handed_by}
 use Rattle.lane_model.proofs.Steps.{same}
@@ -68,5 +69,5 @@ fact_kept desk P laws fact before after handings (Hands caller below accepted ta
     let one = one_handed desk before after caller found.0 found.1 accepted takers (told ∙ verdict) in
     let left = ap (λ (m : List ℕ). desk.delivered before.desk (length before.lane.takers) m) message in
     same_fact P accepted (ap length takers ∙ length_push before.lane.takers caller) (delivered ∙ left) (ap (λ (l : List Handing). handings ++ l) one)
-    (fact.changed before.lane.accepted (length before.lane.takers + 1) before.desk _ _ (laws.delivered before.desk (length before.lane.takers) found.0.message)
+    (fact.changed before.lane.accepted (length before.lane.takers + 1) before.desk _ _ (delivered_keeps desk laws before.desk (length before.lane.takers) found.0.message)
     (fact.handed before.lane.accepted found.0 (length before.lane.takers) before.desk handings found.1 holds))

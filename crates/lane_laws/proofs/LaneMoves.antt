@@ -23,7 +23,8 @@ use Rattle.lane_model.specs.declared.recoveries.ReclaimPart.{ReclaimPart}
 use Rattle.lane_model.specs.declared.recoveries.ReclaimPart.TheVariants as part
 use Rattle.lane_model.specs.declared.recoveries.LaneTurn.{LaneTurn}
 use Rattle.lane_model.specs.declared.recoveries.LaneTurn.TheVariants as lane_turn
-use Rattle.lane_model.specs.Desks.{DeskMeaning, KeepsBound, AreDeskLaws}
+use Rattle.lane_model.specs.Desks.{DeskMeaning, AreDeskLaws}
+use Rattle.lane_model.proofs.KeptBindings.{KeepsBound, bound_keeps, unbound_keeps}
 use Rattle.lane_model.specs.Lanes.{has_call, is_live_in, message_at}
 use Rattle.lane_model.specs.Sends.{send_step, sender_step}
 use Rattle.lane_model.specs.Receives.{receive_step, receiver_step, after_handing, desk_step}
@@ -46,14 +47,6 @@ pub data LaneMove {D : Type 0} (desk : DeskMeaning D) (before after : LaneState 
   Hands : (caller : ℕ) → length before.lane.takers < length before.lane.accepted → after.lane.accepted ≡ before.lane.accepted → after.lane.takers ≡ before.lane.takers ++ caller ∷ []
       → after.receiver ≡ turn.Leaving caller (end.Took (length before.lane.takers) (desk.verdict before.desk (length before.lane.takers) (message_at before.lane.accepted (length before.lane.takers))))
       → after.desk ≡ desk.delivered before.desk (length before.lane.takers) (message_at before.lane.accepted (length before.lane.takers)) → LaneMove desk before after
-
--- an unbinding keeps who else is bound
-pub unbinding_keeps : {D : Type 0} (desk : DeskMeaning D) → AreDeskLaws desk → (state : D) (address handed : ℕ) → KeepsBound desk state (desk.unbound state address) handed
-unbinding_keeps desk laws state address handed = record {
-  aim = laws.unbound_aim state address;
-  counts = laws.unbound_counts state address;
-  bound = λ bound is. inl (laws.unbound state address bound is);
-}
 
 send_moves : {D : Type 0} (desk : DeskMeaning D) (era : Era) (state : LaneState D) (caller : ℕ) (s : Sending) (now : SendStage) → LaneMove desk state (send_step era state caller s now).state
 send_moves desk era state caller s stage.Turn = Quiet refl refl refl
@@ -83,8 +76,8 @@ receive_moves desk laws era state caller r (work.Take take_stage.Buffer) fit =
     (λ _. Hands caller (fit refl) refl refl refl refl) (λ _. Quiet refl refl refl)
 receive_moves desk laws era state caller r (work.Give number give_stage.Turn) fit = Quiet refl refl refl
 receive_moves desk laws era state caller r (work.Give number give_stage.Entry) fit = Quiet refl refl refl
-receive_moves desk laws era state caller r (work.Bind address) fit = desk_moves desk era state caller r _ _ (laws.bound state.desk address (length state.lane.takers))
-receive_moves desk laws era state caller r (work.Unbind address) fit = desk_moves desk era state caller r _ _ (unbinding_keeps desk laws state.desk address (length state.lane.takers))
+receive_moves desk laws era state caller r (work.Bind address) fit = desk_moves desk era state caller r _ _ (bound_keeps desk laws state.desk address (length state.lane.takers))
+receive_moves desk laws era state caller r (work.Unbind address) fit = desk_moves desk era state caller r _ _ (unbound_keeps desk laws state.desk address (length state.lane.takers))
 
 receiver_moves : {D : Type 0} (desk : DeskMeaning D) → AreDeskLaws desk → (era : Era) (state : LaneState D) → IsSoundLane state → LaneMove desk state (receiver_step desk era state).state
 receiver_moves desk laws era state sound =

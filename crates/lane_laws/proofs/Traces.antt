@@ -5,7 +5,8 @@ use Rattle.std.proofs.lemmas.List.{append-nil}
 use Rattle.rp_base.specs.declared.kinds.Endpoint.{Endpoint}
 use Rattle.rp_base.specs.declared.kinds.BoundEndpoint.{BoundEndpoint}
 use Rattle.lane_model.specs.declared.states.BookEntry.{BookEntry}
-use Rattle.lane_model.specs.Desks.{DeskMeaning, bound_at, IsBound, IsNewlyBound, KeepsBound, AreDeskLaws}
+use Rattle.lane_model.specs.Desks.{DeskMeaning, bound_at, IsBound, AreDeskLaws}
+use Rattle.lane_model.proofs.KeptBindings.{IsNewlyBound, KeepsBound}
 use Rattle.lane_laws.specs.Handings.{NumberedMessage, Handing, is_to, due, got, IsPrefix}
 use Rattle.lane_laws.proofs.Numbering.{due_front, due_more, due_same, prefix_more, got_more}
 use Rattle.lane_laws.proofs.LaneFacts.{IsLaneFact}

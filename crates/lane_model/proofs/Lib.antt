@@ -10,3 +10,4 @@ pub mod CrashMay
 pub mod AskSteps
 pub mod FormSteps
 pub mod AtOnce
+pub mod KeptBindings

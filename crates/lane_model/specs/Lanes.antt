@@ -3,6 +3,7 @@ use Rattle.std.specs.Prelude.{ℕ, Bool, false, ◌==◌, ◌&&◌, not, List, [
 use Rattle.std.specs.List.{list_any}
 use Rattle.std.specs.Option.{option_map, option_map_or, unwrap_or}
 use Rattle.rp_base.specs.declared.kinds.Era.{Era}
+use Rattle.lane_model.specs.declared.TheConstants.{MANAGER}
 use Rattle.lane_model.specs.declared.states.BookEntry.{BookEntry}
 use Rattle.lane_model.specs.declared.states.Holding.{Holding}
 use Rattle.lane_model.specs.declared.stages.Turn.{Turn}
@@ -18,10 +19,6 @@ pub record Stepped (S : Type 0) : Type 0 where
 -- where no call is under way there is no step
 abbrev pub still : {S : Type 0} → S → Stepped S
 still state = record { state = state; outcome = outcome.At 0 }
-
--- the number of the manager, where a holder of a turn is named
-abbrev pub manager : ℕ
-manager = 64
 
 -- the era is this incarnation, live
 abbrev pub is_live_in : Era → ℕ → Bool
@@ -44,7 +41,7 @@ abbrev pub holder : {C : Type 0} → Turn C → Option ℕ
 holder turn.Free = None
 holder (turn.Taken caller call) = Some caller
 holder (turn.Leaving caller end) = Some caller
-holder turn.Manager = Some manager
+holder turn.Manager = Some MANAGER
 
 -- a call of this caller has the turn
 abbrev pub has_call : {C : Type 0} → Turn C → ℕ → Bool

@@ -1,13 +1,12 @@
 -- The desk of the ends of a link that is tested: it has no endpoint (own).
-use Rattle.std.specs.Prelude.{◌≡◌, ◌≤◌, ℕ, ◌+◌, Bool, true, false, List, [], length, Option, None, is_some, Result, Err, is_ok}
+use Rattle.std.specs.Prelude.{◌≡◌, ℕ, Bool, true, false, List, [], length, Option, None, is_some, Result, Err, is_ok}
 use Rattle.std.proofs.Common.{refl, ap, inl}
-use Rattle.std.proofs.Math.Nat.{le_refl}
 use Rattle.std.proofs.lemmas.Bool.{false≢true}
 use Rattle.rp_base.specs.declared.kinds.Endpoint.{Endpoint}
 use Rattle.rp_base.specs.declared.kinds.Verdict.{Verdict}
 use Rattle.rp_base.specs.declared.kinds.Verdict.TheVariants as verdict
 use Rattle.rp_base.specs.declared.kinds.BindFault.TheVariants as fault
-use Rattle.lane_model.specs.Desks.{DeskMeaning, KeepsBound, AreDeskLaws}
+use Rattle.lane_model.specs.Desks.{DeskMeaning, KeepsEndpoints, AreDeskLaws}
 use Rattle.library_tests.specs.declared.desks.TestDesk.{TestDesk}
 
 -- a desk that drops every message, with its length in place of an address, and refuses every binding
@@ -34,19 +33,21 @@ is_to (verdict.Service what name address endpoint) = false
 is_to verdict.ServiceMalformed = false
 
 -- nothing changes at this desk, so who is bound stays bound
-pub test_keeps : (desk : TestDesk) (handed : ℕ) → KeepsBound test_desk desk desk handed
-test_keeps desk handed = record { aim = λ message. refl; counts = le_refl 0; bound = λ bound is. inl is }
+pub test_keeps : (desk : TestDesk) → KeepsEndpoints test_desk desk desk
+test_keeps desk = record { everywhere = λ address. refl; counted = refl }
 
 -- the laws of a desk hold
 pub test_laws : AreDeskLaws test_desk
 test_laws = record {
   to = λ desk number message endpoint same. absurd (false≢true (ap is_to same));
   addressed = λ desk number message endpoint same. absurd (false≢true (ap is_some same));
-  delivered = λ desk number message. test_keeps desk (number + 1);
-  bound = λ desk address since. test_keeps desk since;
-  unbound_aim = λ desk address message. refl;
-  unbound_counts = λ desk address. le_refl 0;
-  unbound = λ desk address bound is. is;
+  delivered = λ desk number message. inl (inl (test_keeps desk));
+  bound = λ desk address since. inl (test_keeps desk);
+  unbound = λ desk address. inl (test_keeps desk);
+  delivered_aim = λ desk number message other. refl;
+  bound_aim = λ desk address since other. refl;
+  unbound_aim = λ desk address other. refl;
+  fresh_aim = λ desk other. refl;
   fresh = λ desk. record { endpoints = refl; bindings = refl };
   answered = λ desk address since endpoint same. absurd (false≢true (ap is_ok same));
 }

@@ -10,8 +10,6 @@ use Rattle.rp_io.specs.Images.{ImageAnswer}
 use Rattle.rp_base.specs.declared.limits.TheConstants.{IMAGE_MOST}
 use Rattle.rp_base.specs.declared.kinds.CrashKind.{CrashKind}
 use Rattle.rp_base.specs.declared.kinds.CrashKind.TheVariants as crash_kind
-use Rattle.rp_base.specs.declared.kinds.DriverKind.{DriverKind}
-use Rattle.rp_base.specs.declared.kinds.Switch.{Switch}
 use Rattle.rp_base.specs.Limits.{ring_capacity}
 use Rattle.rp_io.specs.declared.faults.NoImage.TheVariants as no_image
 use Rattle.proc_state.specs.declared.answers.LifeFault.{LifeFault}
@@ -81,31 +79,29 @@ use Rattle.crash_recover.specs.CoreCrashes.{report_of}
 use Rattle.crash_recover.specs.CoreLeaves.{detach_of, shutdown_of}
 use Rattle.crash_recover.specs.CoreRecoveries.{recovery_of}
 use Rattle.crash_recover.specs.CoreRings.{core_ring, pair_bytes, ring_of_lane}
-use Rattle.crash_recover.specs.Cores.{CoreState, LoadState, add_fault, bytes_at, core_memory, driver_add_fault, core_trace, loaded_rings}
+use Rattle.crash_recover.specs.Cores.{CoreState, LoadState, add_fault, bytes_at, core_memory, core_trace, loaded_rings}
 use Rattle.crash_recover.specs.Drives.{drive_step}
 use Rattle.core_laws.specs.BenchMoves.{IsReachedBench, IsReachedCore}
 use Rattle.core_laws.proofs.CoreActs.{acted_reached}
 use Rattle.core_laws.proofs.CrashReclaims.{reached_sound}
-use Rattle.link_commands.specs.declared.acts.CoreAct.{CoreAct}
-use Rattle.link_commands.specs.declared.acts.CoreAct.TheVariants as act
 use Rattle.link_commands.specs.declared.acts.LinkView.{LinkView}
 use Rattle.link_commands.specs.declared.acts.LinkView.TheVariants as view
 use Rattle.link_commands.specs.declared.acts.NamedAct.{NamedAct}
 use Rattle.link_commands.specs.declared.acts.CoreView.{CoreView}
 use Rattle.link_commands.specs.declared.acts.CoreView.TheVariants as shows
-use Rattle.link_commands.specs.declared.acts.NamedAct.TheVariants as under
 use Rattle.link_commands.specs.declared.acts.StartAct.{StartAct}
 use Rattle.link_commands.specs.declared.acts.StartAct.TheVariants as starts
 use Rattle.link_commands.specs.CallEvents.{end_event}
-use Rattle.command_run.specs.CoreCommands.{add_fault_events, added_effect, core_act_effect, core_effect, driver_effect_unless, driver_effect, recovery_effect, region_effect}
+use Rattle.command_run.specs.CoreCommands.{add_fault_events, core_effect}
 use Rattle.command_run.specs.CoreDrives.{actor_end_events, drive_effect, driven_events, step_events}
 use Rattle.command_run.specs.CoreEffects.{CoreEffect, core_tells}
 use Rattle.crash_recover.specs.CoreCallers.{core_turn_holder}
 use Rattle.command_run.specs.CoreLinks.{core_link_effect, core_ring_events, found_ring_events, found_view_events, link_view_events, shown_ring_events}
-use Rattle.command_run.specs.CoreLives.{booted_image, crash_effect, crash_events, detach_effect, fault_at, found_image, leave_events, leave_fault_event, life_fault_event, load_fault_event, may_step, report_events, shutdown_effect, start_event, start_events, start_fault_events, started_effect, found_or_told, image_bytes}
+use Rattle.command_run.specs.CoreLives.{booted_image, crash_events, fault_at, found_image, leave_events, leave_fault_event, life_fault_event, load_fault_event, may_step, report_events, start_event, start_events, start_effect, start_fault_events, start_name, start_with, found_or_told, image_bytes}
 use Rattle.command_run.specs.CoreViews.{core_view_events, loaded_table_events, memory_event, shown_memory_event, shown_trace_event, state_event, table_event, table_events, trace_bytes, trace_event}
 use Rattle.command_run.specs.NamedCores.{NamedCoreState}
 use Rattle.command_run.specs.NamedImages.{ImageState}
+use Rattle.run_laws.proofs.CoreActWalks.{ActOutcome, AddsDriver, AddsRegion, Crashes, Detaches, Drives, Exists, HasNoManager, LinkActs, RefusesDriver, RefusesRegion, ShowsCore, ShowsLink, ShutsDown, Starts, Switches, act_outcome}
 use Rattle.run_laws.proofs.CoresReady.{IsSoundCore, may_drive, sound_cores}
 use Rattle.run_laws.proofs.ScriptDrives.{drive_keeps, drive_tells, last_is}
 use Rattle.way_laws.proofs.CoreRungs.{IsRung, IsRungCore}
@@ -122,7 +118,7 @@ use Rattle.field_laws.proofs.Images.{memory_bytes}
 use Rattle.field_laws.proofs.Rings.{ring_are}
 use Rattle.field_laws.proofs.Sides.{find_has}
 use Rattle.field_laws.proofs.Tables.{entries_few, entries_fields}
-use Rattle.line_laws.proofs.Known.{IsKnownAct, IsKnownCore, IsKnownCoreView, IsKnownView}
+use Rattle.line_laws.proofs.Known.{IsKnownAct, IsKnownCoreView, IsKnownView}
 use Rattle.line_laws.proofs.SaidScripts.{IsSaidStart}
 use Rattle.line_laws.proofs.RingLengths.{pair_few}
 use Rattle.line_laws.proofs.Spelled.{AreSpelled, IsName, IsSpelled, none, one, two}
@@ -377,45 +373,6 @@ module _ (name : List ℕ) (named : IsName name) where
   add_told channel add.DriversFull called = one (event.DriversFull name) ((named, tt), tt)
   add_told channel add.NoMemory called = none
 
-  module _ (core : CoreState) (steps : ℕ) (is : IsFieldCore core) where
-    added : (region : Region) (why : Option AddFault) → add_fault core region ≡ why → LeavesSpelled (added_effect name core steps region why)
-    added region None clear = record {
-      left = record {
-        book = is.book;
-        life = is.life;
-        image = is.image;
-        loaded = is.loaded;
-        placed = subst (λ (loaded : Option LoadState). IfSome loaded (IsFieldPlaced (core.regions ++ region ∷ [])))
-            (sym (is.rest (offline_then (is_offline core.life.state) (region_fault core.regions region) clear))) tt;
-        rest = is.rest;
-        bench = is.bench;
-        calls = is.calls;
-      };
-      events = one (event.Region name (length core.regions)) (((named, (regions_small core region clear, tt)), tt));
-    }
-    added region (Some why) found = record { left = is; events = add_told name why named }
-
-    region_spelled : (region : Region) → LeavesSpelled (region_effect name core steps region)
-    unfolding region_effect
-    region_spelled region = added region (add_fault core region) refl
-
-    declared : (channel : List ℕ) (kind : DriverKind) (why : Option AddFault) → IsName channel → LeavesSpelled (driver_effect_unless name core steps channel kind why)
-    declared channel kind None called = record {
-      left = record { book = is.book; life = is.life; image = is.image; loaded = is.loaded; placed = is.placed; rest = is.rest; bench = is.bench; calls = record { host = is.calls.host; worker = is.calls.worker } };
-      events = one (event.Driver name channel kind) (((named, (called, (tt, tt))), tt));
-    }
-    declared channel kind (Some why) called = record { left = is; events = add_told channel why called }
-
-    driver_spelled : (channel : List ℕ) (kind : DriverKind) → IsName channel → LeavesSpelled (driver_effect name core steps channel kind)
-    unfolding driver_effect
-    driver_spelled channel kind called = declared channel kind (driver_add_fault core channel) called
-
-    switch_spelled : (set : Switch) → LeavesSpelled (recovery_effect name core steps set)
-    switch_spelled set = record {
-      left = record { book = is.book; life = record { users = is.life.users; incarnation = is.life.incarnation }; image = is.image; loaded = is.loaded; placed = is.placed; rest = is.rest; bench = is.bench; calls = is.calls };
-      events = one (event.Recovery name set) (((named, (tt, tt)), tt));
-    }
-
   -- ---- what a core shows
 
   trace_told : (index : ℕ) (found : Option (List ℕ)) → index < 2 ^ 64 → IfSome found AreBytes → IsSpelled (shown_trace_event name index found)
@@ -508,8 +465,8 @@ module _ (name : List ℕ) (named : IsName name) where
   booted_named (Some image) has = has
 
   module _ (core : CoreState) (is : IsFieldCore core) (sound : SoundRegions core.regions) (reached : IsReachedCore core) (images : List ImageState) (answer : ImageAnswer) (are : AreBytesImages images) (told_are : IfOk answer AreBytes) where
-    start_spelled : (start : StartAct) (steps : ℕ) → IsSaidStart start → LeavesSpelled (started_effect start images answer (record { name = name; core = core }) steps)
-    unfolding started_effect
+    start_spelled : (start : StartAct) (steps : ℕ) → IsSaidStart start
+        → let image = start_name start (record { name = name; core = core }) in LeavesSpelled (start_effect name image steps (start_with start core (found_image images answer image)))
     start_spelled (starts.Boot image) steps called =
         let found = found_image images answer image in
         let out = boot_fields core image found called (found_are images answer image are told_are) sound is in
@@ -523,25 +480,6 @@ module _ (name : List ℕ) (named : IsName name) where
         let found = found_image images answer image in
         let out = recovery_fields core found (found_are images answer image are told_are) sound reached is in
         record { left = out.core; events = starts_told image (recovery_of core found).answer (booted_named core.image is.image) out.answer }
-
-  module _ (core : CoreState) (steps : ℕ) (is : IsFieldCore core) where
-    shutdown_spelled : LeavesSpelled (shutdown_effect name core steps)
-    unfolding shutdown_effect
-    shutdown_spelled =
-        let out = shutdown_fields (may_step steps) core is in
-        record { left = out.core; events = leave_told (event.Offline name) (shutdown_of (may_step steps) core).answer (((named, tt), tt)) out.answer }
-
-    detach_spelled : LeavesSpelled (detach_effect name core steps)
-    unfolding detach_effect
-    detach_spelled =
-        let out = detach_fields (may_step steps) core is in
-        record { left = out.core; events = leave_told (event.Detached name) (detach_of (may_step steps) core).answer (((named, tt), tt)) out.answer }
-
-    crash_spelled : (kind : CrashKind) → LeavesSpelled (crash_effect name core steps kind)
-    unfolding crash_effect
-    crash_spelled kind =
-        let out = report_fields (may_step steps) core is in
-        record { left = out.core; events = report_told kind (report_of (may_step steps) core).answer out.answer }
 
   -- ---- drives
 
@@ -587,22 +525,48 @@ module _ (name : List ℕ) (named : IsName name) where
 
 module _ (images : List ImageState) (answer : ImageAnswer) (is_quiet : Bool) (on : NamedCoreState) (steps : ℕ) (named : IsName on.name) (are : AreBytesImages images) (told_are : IfOk answer AreBytes)
     (sound : IsSoundCore on.core) (is : IsFieldCore on.core) (rungs : IsRungCore on.core) where
-  asked_spelled : (asked : CoreAct) → IsKnownCore asked → LeavesSpelled (core_act_effect images answer is_quiet on steps asked)
-  unfolding core_act_effect
-  asked_spelled (act.Region region) knows = region_spelled on.name named on.core steps is region
-  asked_spelled (act.Driver channel kind) knows = driver_spelled on.name named on.core steps is channel kind knows
-  asked_spelled (act.Start start) knows = start_spelled on.name named on.core is rungs.load.regions sound.reached images answer are told_are start steps knows
-  asked_spelled act.Shutdown knows = shutdown_spelled on.name named on.core steps is
-  asked_spelled act.Detach knows = detach_spelled on.name named on.core steps is
-  asked_spelled (act.Show shown) knows = record { left = is; events = shown_spelled on.name named on.core is shown knows }
-  asked_spelled (act.Crash kind) knows = crash_spelled on.name named on.core steps is kind
-  asked_spelled (act.Recovery set) knows = switch_spelled on.name named on.core steps is set
-  asked_spelled (act.Drive count) knows = drive_spelled on.name named is_quiet on.core steps count sound is
+  -- whatever the outcome of an act is
+  outcome_spelled : {wanted : NamedAct (List ℕ)} {effect : CoreEffect} → ActOutcome images answer is_quiet on steps wanted effect → IsKnownAct wanted → LeavesSpelled effect
+  outcome_spelled (Exists made) knows = told on.name named on.core steps (event.Exists on.name) is (((named, tt), tt))
+  outcome_spelled (HasNoManager managed) knows = told on.name named on.core steps (event.Unknown on.name) is (((named, tt), tt))
+  outcome_spelled (ShowsLink shown) knows = record { left = is; events = view_shown on.name named on.core steps is rungs shown knows sound.reached.bench }
+  outcome_spelled (ShowsCore shown) knows = record { left = is; events = shown_spelled on.name named on.core is shown knows }
+  outcome_spelled (LinkActs asked) knows = link_at on.name named on.core steps is rungs asked on.core.bench knows.0 knows.1 sound.reached.bench is.bench
+  outcome_spelled (AddsRegion region clear) knows = record {
+    left = record {
+      book = is.book;
+      life = is.life;
+      image = is.image;
+      loaded = is.loaded;
+      placed = subst (λ (loaded : Option LoadState). IfSome loaded (IsFieldPlaced (on.core.regions ++ region ∷ [])))
+          (sym (is.rest (offline_then (is_offline on.core.life.state) (region_fault on.core.regions region) clear))) tt;
+      rest = is.rest;
+      bench = is.bench;
+      calls = is.calls;
+    };
+    events = one (event.Region on.name (length on.core.regions)) (((named, (regions_small on.core region clear, tt)), tt));
+  }
+  outcome_spelled (RefusesRegion region why) knows = record { left = is; events = add_told on.name named on.name why named }
+  outcome_spelled (AddsDriver channel kind) knows = record {
+    left = record { book = is.book; life = is.life; image = is.image; loaded = is.loaded; placed = is.placed; rest = is.rest; bench = is.bench; calls = record { host = is.calls.host; worker = is.calls.worker } };
+    events = one (event.Driver on.name channel kind) (((named, (knows, (tt, tt))), tt));
+  }
+  outcome_spelled (RefusesDriver channel kind why) knows = record { left = is; events = add_told on.name named channel why knows }
+  outcome_spelled (Starts start) knows = start_spelled on.name named on.core is rungs.load.regions sound.reached images answer are told_are start steps knows
+  outcome_spelled ShutsDown knows =
+      let out = shutdown_fields (may_step steps) on.core is in
+      record { left = out.core; events = leave_told on.name named (event.Offline on.name) (shutdown_of (may_step steps) on.core).answer (((named, tt), tt)) out.answer }
+  outcome_spelled Detaches knows =
+      let out = detach_fields (may_step steps) on.core is in
+      record { left = out.core; events = leave_told on.name named (event.Detached on.name) (detach_of (may_step steps) on.core).answer (((named, tt), tt)) out.answer }
+  outcome_spelled (Crashes kind) knows =
+      let out = report_fields (may_step steps) on.core is in
+      record { left = out.core; events = report_told on.name named kind (report_of (may_step steps) on.core).answer out.answer }
+  outcome_spelled (Drives count) knows = drive_spelled on.name named is_quiet on.core steps count sound is
+  outcome_spelled (Switches set) knows = record {
+    left = record { book = is.book; life = record { users = is.life.users; incarnation = is.life.incarnation }; image = is.image; loaded = is.loaded; placed = is.placed; rest = is.rest; bench = is.bench; calls = is.calls };
+    events = one (event.Recovery on.name set) (((named, (tt, tt)), tt));
+  }
 
   pub core_spelled : (wanted : NamedAct (List ℕ)) → IsKnownAct wanted → LeavesSpelled (core_effect images answer is_quiet on steps wanted)
-  unfolding core_effect
-  core_spelled (under.Make made) knows = told on.name named on.core steps (event.Exists on.name) is (((named, tt), tt))
-  core_spelled (under.Link asked) knows = link_at on.name named on.core steps is rungs asked on.core.bench knows.0 knows.1 sound.reached.bench is.bench
-  core_spelled (under.Manage managed) knows = told on.name named on.core steps (event.Unknown on.name) is (((named, tt), tt))
-  core_spelled (under.Show shown) knows = record { left = is; events = view_shown on.name named on.core steps is rungs shown knows sound.reached.bench }
-  core_spelled (under.Core asked) knows = asked_spelled asked knows
+  core_spelled wanted knows = outcome_spelled (act_outcome images answer is_quiet on steps wanted) knows

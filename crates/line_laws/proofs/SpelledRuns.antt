@@ -1,5 +1,5 @@
 -- The events of a run are spelled as lines have them, and so each is read back.
-use Rattle.std.proofs.Common.{◌≡◌, ℕ, suc, ◌<◌, ◌^◌, Bool, false, List, [], ◌∷◌, length, Option, Some, None, IfSome, Result, Ok, Err, slice_get, refl, arith}
+use Rattle.std.proofs.Common.{ℕ, suc, ◌<◌, ◌^◌, Bool, true, false, List, [], ◌∷◌, ◌++◌, length, Option, Some, None, IfSome, Result, Ok, Err, subst, arith}
 use Rattle.std.specs.Prelude.{All, nat_le, nat_lt}
 use Rattle.std.specs.Result.{IfOk}
 use Rattle.std.proofs.lemmas.Bool.{cond_both}
@@ -7,14 +7,11 @@ use Rattle.std.proofs.lemmas.List.Elements.{All-append, All-nil, All-push, All-s
 use Rattle.rp_io.specs.Images.{ImageAnswer}
 use Rattle.rp_base.specs.declared.limits.TheConstants.{IMAGE_MOST}
 use Rattle.rp_base.specs.declared.kinds.End.TheVariants as side
-use Rattle.rp_base.specs.declared.kinds.Switch.{Switch}
 use Rattle.memory_pool.specs.Soundness.{SoundRegions}
-use Rattle.lane_model.specs.declared.calls.LinkConfig.{LinkConfig}
 use Rattle.script_lang.specs.declared.commands.Command.{Command}
-use Rattle.script_lang.specs.declared.commands.RegionSet.{RegionSet}
 use Rattle.script_lang.specs.declared.recipes.RecipeLine.{RecipeLine}
 use Rattle.script_lang.specs.Grammar.{IsScript}
-use Rattle.script_lang.specs.Runnable.{AreRunnable, IsBook, IsRunnable}
+use Rattle.script_lang.specs.Runnable.{AreRunnable, IsRunnable}
 use Rattle.script_lang.proofs.Runnable.{are_runnable}
 use Rattle.journal.specs.declared.events.Event.{Event}
 use Rattle.journal.specs.declared.events.Event.TheVariants as event
@@ -22,14 +19,11 @@ use Rattle.journal.specs.Reading.{IsWritten}
 use Rattle.image_maker.specs.Images.{image_of}
 use Rattle.core_dump.specs.Dumps.{dump_of}
 use Rattle.link_bench.specs.Acts.{IsFitAct}
-use Rattle.link_bench.specs.Benches.{BenchState, new_bench_of}
+use Rattle.link_bench.specs.Benches.{BenchState}
 use Rattle.crash_recover.specs.CoreParts.{core_parts}
 use Rattle.crash_recover.specs.Cores.{CoreState, LoadState}
 use Rattle.core_laws.specs.BenchMoves.{IsReachedBench}
 use Rattle.link_commands.specs.declared.acts.Line.{Line}
-use Rattle.link_commands.specs.declared.acts.Line.TheVariants as line
-use Rattle.link_commands.specs.declared.acts.Making.{Making}
-use Rattle.link_commands.specs.declared.acts.Making.TheVariants as making
 use Rattle.link_commands.specs.declared.acts.NamedAct.{NamedAct}
 use Rattle.link_commands.specs.declared.acts.NamedAct.TheVariants as under
 use Rattle.command_run.specs.declared.dumps.TheConstants.{DUMPS_MOST}
@@ -39,8 +33,9 @@ use Rattle.command_run.specs.Dumps.{bytes_answer, core_answer, crashed_load, kep
 use Rattle.command_run.specs.NamedCores.{NamedCoreState}
 use Rattle.command_run.specs.NamedImages.{ImageState}
 use Rattle.link_commands.specs.NamedLinks.{NamedLink}
-use Rattle.command_run.specs.Runs.{ObjectsState, Run, RunEffect, RunState, asked_name, effect_by_core_place, core_made_effect, core_named, core_place, dump_answer, dump_effect, dump_effect_of, effect_of, find_core, effect_of_core, effect_of_link, has_image, image_effect, is_full, line_effect, effect_by_link_place, made_effect, making_effect, name_effect, new_end, new_run, place_of, quiet_effect, regions_of, run_from, run_of, run_on, run_tells, run_told, unnamed_effect, with_image, without_link_effect}
+use Rattle.command_run.specs.Runs.{ObjectsState, Run, RunEffect, RunState, asked_name, core_named, dump_answer, effect_of, find_core, has_image, new_end, new_run, regions_of, run_from, run_of, run_on, run_tells, run_told}
 use Rattle.command_run.specs.Stores.{Shelf, Told, later_told, told_answer}
+use Rattle.run_laws.proofs.CommandWalks.{ActsOnCore, ActsOnLink, CommandOutcome, FindsImage, HasNoRoom, KeepsDump, MakesCore, MakesImage, MakesLink, NamesNothing, Quiets, RefusesDump, made_link, outcome}
 use Rattle.run_laws.proofs.CoreWalks.{FitsNamed}
 use Rattle.run_laws.proofs.CoresReady.{IsSoundCore}
 use Rattle.run_laws.proofs.RunWalks.{item_at}
@@ -49,17 +44,16 @@ use Rattle.act_laws.specs.Accounts.{Account}
 use Rattle.act_laws.proofs.Tales.{IsSoundTale}
 use Rattle.way_laws.proofs.CoreRungs.{IsRungCore, core_rung, new_core_rung}
 use Rattle.way_laws.proofs.LinkTales.{link_tale, made_tale}
-use Rattle.way_laws.proofs.RunTales.{FitsMaking}
 use Rattle.field_laws.specs.Fields.{AreBytes}
 use Rattle.field_laws.specs.FieldBenches.{IsFieldBench}
 use Rattle.field_laws.specs.FieldCores.{IsFieldCore}
 use Rattle.field_laws.proofs.Benches.{new_fields}
 use Rattle.field_laws.proofs.Cores.{new_core_fields}
 use Rattle.field_laws.proofs.DumpSizes.{dump_small}
-use Rattle.field_laws.proofs.Images.{IsBytesLine, dump_are, image_are}
+use Rattle.field_laws.proofs.Images.{dump_are, image_are}
 use Rattle.field_laws.proofs.Sides.{find_has, fresh_fields}
 use Rattle.line_laws.specs.ByteStores.{TellsBytes}
-use Rattle.line_laws.proofs.Known.{AreKnown, IsKnownAct, IsKnownLine, IsKnownMaking, are_known}
+use Rattle.line_laws.proofs.Known.{AreKnown, IsKnownAct, IsKnownLine, are_known}
 use Rattle.line_laws.proofs.Spelled.{IsName, IsSpelled, none, one, read_back}
 use Rattle.line_laws.proofs.SpelledCalls.{link_spelled}
 use Rattle.line_laws.proofs.SpelledCores.{AreBytesImages, core_spelled}
@@ -94,134 +88,7 @@ record RunSpelled (effect : RunEffect) : Type 0 where
 told : (run : RunState) (first : Event) → AreFieldObjects run.objects → IsSpelled first → RunSpelled (run_tells run first)
 told run first are is = record { left = are; events = one first is }
 
-full : (run : RunState) → AreFieldObjects run.objects → RunSpelled (run_tells run event.ObjectsFull)
-full run are = told run event.ObjectsFull are (tt, tt)
-
-unknown : (run : RunState) (name : List ℕ) → IsName name → AreFieldObjects run.objects → RunSpelled (run_tells run (event.Unknown name))
-unknown run name named are = told run (event.Unknown name) are (((named, tt), tt))
-
--- ---- new links and cores
-
-module _ (run : RunState) (are : AreFieldObjects run.objects) (name : List ℕ) (named : IsName name) where
-  made : (config : LinkConfig) (has_service : Bool) → config.first < 2 ^ 32 → config.book < 2 ^ 64 → FitsMaking (making.Link config has_service) → RunSpelled (made_effect run name config has_service)
-  unfolding made_effect
-  made config has_service first book fits =
-      cond_both (is_full run.objects) (run_tells run event.ObjectsFull) _ RunSpelled (λ _. full run are)
-      (λ _. record {
-        left = record {
-          links = All-push IsFieldNamedLink run.objects.links (record { name = name; bench = new_bench_of config (new_end has_service) (new_end false) }) are.links
-              (record {
-                name = named;
-                bench = new_fields config (new_end has_service) (new_end false) first book (fresh_fields (new_end has_service)) (fresh_fields (new_end false));
-                tale = record { account = _; tale = made_tale side.Host config has_service fits.0 fits.1 fits.2 };
-              });
-          cores = are.cores;
-          images = are.images;
-        };
-        events = one (event.Open name 1) (((named, (omega arith, tt)), tt));
-      })
-
-  core_made : (set : RegionSet) (book : ℕ) → book < 2 ^ 64 → IsBook book → RunSpelled (core_made_effect run name set book)
-  unfolding core_made_effect
-  core_made set book small fits =
-      cond_both (is_full run.objects) (run_tells run event.ObjectsFull) _ RunSpelled (λ _. full run are)
-      (λ _. record {
-        left = record {
-          links = are.links;
-          cores = All-push IsFieldNamedCore run.objects.cores _ are.cores (record { name = named; core = new_core_fields (regions_of set) [] book small; rungs = new_core_rung set book fits });
-          images = are.images;
-        };
-        events = one (event.Offline name) (((named, tt), tt));
-      })
-
-  made_so : (wanted : Making) → IsKnownMaking wanted → RunSpelled (making_effect run name wanted)
-  made_so (making.Link config has_service) knows = made config has_service knows.0.0 knows.0.1 knows.1
-  made_so (making.Core set book) knows = core_made set book knows.0 knows.1
-
-  unnamed : (wanted : NamedAct (List ℕ)) → IsKnownAct wanted → RunSpelled (unnamed_effect run name wanted)
-  unfolding unnamed_effect
-  unnamed (under.Make asked) knows = made_so asked knows
-  unnamed (under.Link asked) knows = unknown run name named are
-  unnamed (under.Manage managed) knows = unknown run name named are
-  unnamed (under.Show shown) knows = unknown run name named are
-  unnamed (under.Core asked) knows = unknown run name named are
-
--- ---- what is done under a name
-
-fits_named : (wanted : NamedAct (List ℕ)) → IsKnownAct wanted → FitsNamed IsFitAct wanted
-fits_named (under.Make made) knows = tt
-fits_named (under.Link asked) knows = knows.0
-fits_named (under.Manage managed) knows = tt
-fits_named (under.Show shown) knows = tt
-fits_named (under.Core asked) knows = tt
-
-module _ (answer : ImageAnswer) (told_are : IfOk answer AreBytes) (run : RunState) (name : List ℕ) (wanted : NamedAct (List ℕ)) (named : IsName name) (knows : IsKnownAct wanted) (are : AreFieldObjects run.objects)
-    (sound : AreSound run.objects) where
-  core_at : (place : ℕ) (found : Option NamedCoreState) → slice_get run.objects.cores place ≡ found → RunSpelled (effect_of_core answer run name wanted place found)
-  core_at place None none_there = unnamed run are name named wanted knows
-  core_at place (Some on) found =
-      let is = item_at IsFieldNamedCore run.objects.cores place on found are.cores in
-      let came = item_at (λ (at : NamedCoreState). IsSoundCore at.core) run.objects.cores place on found sound.cores in
-      let left = core_spelled run.objects.images answer run.objects.is_quiet on run.steps is.name are.images told_are came is.core is.rungs wanted knows in
-      record {
-        left = record { links = are.links; cores = All-set IsFieldNamedCore run.objects.cores place _ (record { name = is.name; core = left.left; rungs = core_rung run.objects.images answer on run.steps came is.rungs run.objects.is_quiet wanted (fits_named wanted knows) }) are.cores; images = are.images };
-        events = left.events;
-      }
-
-  core_located : (place : Option ℕ) → RunSpelled (effect_by_core_place answer run name wanted place)
-  core_located None = unnamed run are name named wanted knows
-  core_located (Some place) = core_at place (slice_get run.objects.cores place) refl
-
-  without_link : RunSpelled (without_link_effect answer run name wanted)
-  unfolding without_link_effect
-  without_link = core_located (core_place run.objects.cores name)
-
-  link_at : (place : ℕ) (found : Option NamedLink) → slice_get run.objects.links place ≡ found → RunSpelled (effect_of_link answer run name wanted place found)
-  link_at place None none_there = without_link
-  link_at place (Some on) found =
-      let is = item_at IsFieldNamedLink run.objects.links place on found are.links in
-      let came = item_at (λ (at : NamedLink). IsReachedBench at.bench) run.objects.links place on found sound.links in
-      let left = link_spelled on run.steps wanted is.name knows is.tale.tale.sound (record { reached = came; fields = is.bench }) in
-      record {
-        left = record {
-          links = All-set IsFieldNamedLink run.objects.links place _ (record {
-            name = is.name;
-            bench = left.bench;
-            tale = record { account = _; tale = link_tale side.Host on run.steps wanted is.tale.account (fits_named wanted knows) came is.tale.tale };
-          }) are.links;
-          cores = are.cores;
-          images = are.images;
-        };
-        events = left.events;
-      }
-
-  located : (place : Option ℕ) → RunSpelled (effect_by_link_place answer run name wanted place)
-  located None = without_link
-  located (Some place) = link_at place (slice_get run.objects.links place) refl
-
-  by_name : RunSpelled (name_effect answer run name wanted)
-  unfolding name_effect
-  by_name = located (place_of run.objects.links name)
-
--- ---- images and dumps
-
-quieted : (run : RunState) (set : Switch) → AreFieldObjects run.objects → RunSpelled (quiet_effect run set)
-unfolding quiet_effect
-quieted run set are = record { left = record { links = are.links; cores = are.cores; images = are.images }; events = none }
-
-imaged : (run : RunState) (name : List ℕ) (lines : List RecipeLine) → IsName name → All IsBytesLine lines → length (image_of lines) < 2 ^ 64 → AreFieldObjects run.objects → RunSpelled (image_effect run name lines)
-unfolding image_effect
-imaged run name lines named all small are =
-    cond_both (has_image run.objects.images name) (run_tells run (event.ImageExists name))
-    (run_tells (with_image run name (image_of lines)) (event.Image name (length (image_of lines)))) RunSpelled (λ _. told run (event.ImageExists name) are (((named, tt), tt)))
-    (λ _. record {
-      left = record {
-        links = are.links;
-        cores = are.cores;
-        images = All-push (λ (image : ImageState). AreBytes image.bytes) run.objects.images (record { name = name; bytes = image_of lines; is_dump = false }) are.images (image_are lines all);
-      };
-      events = one (event.Image name (length (image_of lines))) (((named, (small, tt)), tt));
-    })
+-- ---- dumps
 
 -- what is told in the place of a dump, or its bytes
 abbrev IsSpelledAnswer : Result (List ℕ) Event → Type 0
@@ -244,41 +111,94 @@ module _ (name image : List ℕ) (named : IsName name) (called : IsName image) w
   core_told is_taken kept None is = ((named, tt), tt)
   core_told is_taken kept (Some on) is = load_told is_taken kept on.core (crashed_load on.core.life.state on.core.loaded) is.core is.rungs.load.regions
 
-  dumped : (run : RunState) (answered : Result (List ℕ) Event) → IsSpelledAnswer answered → AreFieldObjects run.objects → RunSpelled (dump_effect_of run image answered)
-  dumped run (Ok bytes) is are = record {
-    left = record {
-      links = are.links;
-      cores = are.cores;
-      images = All-push (λ (image : ImageState). AreBytes image.bytes) run.objects.images _ are.images is.0;
-    };
-    events = one (event.Image image (length bytes)) (((called, (is.1, tt)), tt));
-  }
-  dumped run (Err first) is are = told run first are is
-
   named_core : (run : RunState) → AreFieldObjects run.objects → IfSome (core_named run.objects name) IsFieldNamedCore
   named_core run are =
       cond_both _ None (find_core run.objects.cores name) (λ (found : Option NamedCoreState). IfSome found IsFieldNamedCore) (λ _. tt)
       (λ _. find_has IsFieldNamedCore _ run.objects.cores are.cores)
 
-  dump_spelled : (run : RunState) → AreFieldObjects run.objects → RunSpelled (dump_effect run name image)
-  unfolding dump_effect
-  dump_spelled run are =
-      dumped run (dump_answer run.objects name image)
-      (core_told (has_image run.objects.images image) (kept_dumps run.objects.images) (core_named run.objects name) (named_core run are)) are
+  dump_told : (run : RunState) → AreFieldObjects run.objects → IsSpelledAnswer (dump_answer run.objects name image)
+  dump_told run are = core_told (has_image run.objects.images image) (kept_dumps run.objects.images) (core_named run.objects name) (named_core run are)
 
 -- ---- commands
 
-by_line : (answer : ImageAnswer) (run : RunState) (wanted : Line (List RecipeLine) (List ℕ)) → IfOk answer AreBytes → IsKnownLine wanted → AreFieldObjects run.objects → AreSound run.objects
-    → RunSpelled (line_effect answer run wanted)
-by_line answer run (line.Image name lines) told_are knows are sound = imaged run name lines knows.0 knows.1 knows.2 are
-by_line answer run (line.Quiet set) told_are knows are sound = quieted run set are
-by_line answer run (line.Dump name image) told_are knows are sound = dump_spelled name image knows.0 knows.1 run are
-by_line answer run (line.On name wanted) told_are knows are sound = by_name answer told_are run name wanted knows.0 knows.1 are sound
+fits_named : (wanted : NamedAct (List ℕ)) → IsKnownAct wanted → FitsNamed IsFitAct wanted
+fits_named (under.Make made) knows = tt
+fits_named (under.Link asked) knows = knows.0
+fits_named (under.Manage managed) knows = tt
+fits_named (under.Show shown) knows = tt
+fits_named (under.Core asked) knows = tt
 
-effect_spelled : (answer : ImageAnswer) (run : RunState) (wanted : Command) → IfOk answer AreBytes → IsKnownLine (line_of wanted) → AreFieldObjects run.objects → AreSound run.objects
-    → RunSpelled (effect_of answer run wanted)
-unfolding effect_of
-effect_spelled answer run wanted told_are knows are sound = by_line answer run (line_of wanted) told_are knows are sound
+-- whatever the outcome of a command is
+module _ (answer : ImageAnswer) (told_are : IfOk answer AreBytes) (run : RunState) (are : AreFieldObjects run.objects) (sound : AreSound run.objects) where
+  -- an image of bytes more
+  with_bytes : (name bytes : List ℕ) (is_dump : Bool) → AreBytes bytes → AreBytesImages (run.objects.images ++ record { name = name; bytes = bytes; is_dump = is_dump } ∷ [])
+  with_bytes name bytes is_dump all =
+      All-push (λ (image : ImageState). AreBytes image.bytes) run.objects.images (record { name = name; bytes = bytes; is_dump = is_dump }) are.images all
+
+  outcome_spelled : {done : Line (List RecipeLine) (List ℕ)} {effect : RunEffect} → CommandOutcome answer run done effect → IsKnownLine done → RunSpelled effect
+  outcome_spelled (MakesImage name lines) knows =
+      let small = knows.2 in record {
+        left = record { links = are.links; cores = are.cores; images = with_bytes name (image_of lines) false (image_are lines knows.1) };
+        events = one (event.Image name (length (image_of lines))) (((knows.0, (small, tt)), tt));
+      }
+  outcome_spelled (FindsImage name lines) knows = told run (event.ImageExists name) are (((knows.0, tt), tt))
+  outcome_spelled (Quiets set) knows = record { left = record { links = are.links; cores = are.cores; images = are.images }; events = none }
+  outcome_spelled (KeepsDump name image bytes is) knows =
+      let all : IsSpelledAnswer (Ok bytes) = subst IsSpelledAnswer is (dump_told name image knows.0 knows.1 run are) in record {
+        left = record { links = are.links; cores = are.cores; images = with_bytes image bytes true all.0 };
+        events = one (event.Image image (length bytes)) (((knows.1, (all.1, tt)), tt));
+      }
+  outcome_spelled (RefusesDump name image first is) knows = told run first are (subst IsSpelledAnswer is (dump_told name image knows.0 knows.1 run are))
+  outcome_spelled (NamesNothing name wanted _) knows = told run (event.Unknown name) are (((knows.0, tt), tt))
+  outcome_spelled (HasNoRoom name made _) knows = told run event.ObjectsFull are (tt, tt)
+  outcome_spelled (MakesLink name config has_service _) knows =
+      let small = knows.1.0 in
+      let fits = knows.1.1 in record {
+        left = record {
+          links = All-push IsFieldNamedLink run.objects.links (made_link name config has_service) are.links
+              (record {
+                name = knows.0;
+                bench = new_fields config (new_end has_service) (new_end false) small.0 small.1 (fresh_fields (new_end has_service)) (fresh_fields (new_end false));
+                tale = record { account = _; tale = made_tale side.Host config has_service fits.0 fits.1 fits.2 };
+              });
+          cores = are.cores;
+          images = are.images;
+        };
+        events = one (event.Open name 1) (((knows.0, (omega arith, tt)), tt));
+      }
+  outcome_spelled (MakesCore name set book _) knows =
+      let fits = knows.1 in record {
+        left = record {
+          links = are.links;
+          cores = All-push IsFieldNamedCore run.objects.cores _ are.cores (record { name = knows.0; core = new_core_fields (regions_of set) [] book fits.0; rungs = new_core_rung set book fits.1 });
+          images = are.images;
+        };
+        events = one (event.Offline name) (((knows.0, tt), tt));
+      }
+  outcome_spelled (ActsOnLink name wanted place on at) knows =
+      let is = item_at IsFieldNamedLink run.objects.links place on at.found are.links in
+      let came = item_at (λ (named : NamedLink). IsReachedBench named.bench) run.objects.links place on at.found sound.links in
+      let left = link_spelled on run.steps wanted is.name knows.1 is.tale.tale.sound (record { reached = came; fields = is.bench }) in
+      record {
+        left = record {
+          links = All-set IsFieldNamedLink run.objects.links place _ (record {
+            name = is.name;
+            bench = left.bench;
+            tale = record { account = _; tale = link_tale side.Host on run.steps wanted is.tale.account (fits_named wanted knows.1) came is.tale.tale };
+          }) are.links;
+          cores = are.cores;
+          images = are.images;
+        };
+        events = left.events;
+      }
+  outcome_spelled (ActsOnCore name wanted place on at) knows =
+      let is = item_at IsFieldNamedCore run.objects.cores place on at.found are.cores in
+      let came = item_at (λ (named : NamedCoreState). IsSoundCore named.core) run.objects.cores place on at.found sound.cores in
+      let left = core_spelled run.objects.images answer run.objects.is_quiet on run.steps is.name are.images told_are came is.core is.rungs wanted knows.1 in
+      record {
+        left = record { links = are.links; cores = All-set IsFieldNamedCore run.objects.cores place _ (record { name = is.name; core = left.left; rungs = core_rung run.objects.images answer on run.steps came is.rungs run.objects.is_quiet wanted (fits_named wanted knows.1) }) are.cores; images = are.images };
+        events = left.events;
+      }
 
 -- ---- runs
 
@@ -298,7 +218,7 @@ told_spelled : (run : RunState) (wanted : Command) (answer : Option ImageAnswer)
 told_spelled run wanted None later told_are knows runs are sound rest = none
 told_spelled run wanted (Some answer) later told_are knows runs are sound rest =
     let effect = effect_of answer run wanted in
-    let did = effect_spelled answer run wanted told_are knows are sound in
+    let did = outcome_spelled answer told_are run are sound (outcome answer run wanted) knows in
     on_spelled effect effect.ending (later effect.run) did.events (rest effect.run did.left (command_sound answer run wanted runs sound))
 
 run_spelled : (told : Told) (run : RunState) (commands : List Command) → TellsBytes told → AreKnown commands → AreRunnable commands → AreFieldObjects run.objects → AreSound run.objects

@@ -102,6 +102,8 @@ impl RunLog {
     }
 
     /// Hands on what is kept, once it is a whole piece, so that less than a piece is kept.
+    ///
+    /// Errors: [`Failed`] where the sink failed. A front of what was kept is written then.
     pub fn hand_on<K: Sink>(&mut self, out: &mut K) -> Result<(), Failed>
         ensures handed { OnOk result (Hands (K.written out.old) self.old.lines (K.written out.new) self.new.lines []) }
         ensures less { OnOk result (KeepsLess self.new) }
@@ -117,6 +119,8 @@ impl RunLog {
     }
 
     /// Hands on what is kept.
+    ///
+    /// Errors: [`Failed`] where the sink failed. A front of what was kept is written then.
     pub fn flush<K: Sink>(&mut self, out: &mut K) -> Result<(), Failed>
         ensures whole { OnOk result (Appends (K.written out.old) (K.written out.new) self.old.lines) }
         ensures empty { OnOk result (self.new ≡ record self.old { lines = [] }) }

@@ -1,5 +1,6 @@
 -- The life of a core, and what each call makes of it: a table of states and calls (the states and calls of the Linux remoteproc documentation and of its remoteproc_core.c; the counts are own).
 use Rattle.std.specs.Prelude.{◌≡◌, ℕ, ◌+◌, ◌-◌, ◌≤◌, ◌==◌, Bool, true, is_some, Option, Some, None, if◌then◌else◌, Result, Ok, Err, OnErr}
+use Rattle.std.specs.Result.{result_err}
 use Rattle.rp_base.specs.declared.kinds.LifeState.{LifeState}
 use Rattle.rp_base.specs.declared.kinds.LifeState.TheVariants.{Offline, Running, Crashed, Attached, Detached}
 use Rattle.proc_state.specs.declared.answers.LifeFault.{LifeFault}
@@ -114,10 +115,15 @@ abbrev pub crash_as : Option Report → CoreLife → Outcome Report
 crash_as None life = refusal_of fault.NotPowered life
 crash_as (Some told) life = record { life = record life { state = Crashed }; answer = Ok told }
 
--- a recovery, which has to be on
-abbrev pub recovery_to : Option LifeState → CoreLife → Outcome (Unit {0})
-recovery_to None life = refusal_of fault.NotCrashed life
-recovery_to (Some state) life = if life.recovery then first_start state life.users tt life else refusal_of fault.RecoveryOff life
+-- the state that a recovery leads to, which has to be on, or why it leads to none, whatever incarnation is left
+abbrev pub recovery_state_by : Option LifeState → Bool → Result LifeState LifeFault
+recovery_state_by None is_on = Err fault.NotCrashed
+recovery_state_by (Some state) is_on = if is_on then Ok state else Err fault.RecoveryOff
+
+-- a recovery: the core starts again, for the users that it has
+abbrev pub recovery_to : Result LifeState LifeFault → CoreLife → Outcome (Unit {0})
+recovery_to (Err why) life = refusal_of why life
+recovery_to (Ok state) life = first_start state life.users tt life
 
 -- ---- the calls
 
@@ -141,9 +147,17 @@ life_after_detach life = leave_to fault.NotAttached (line_of life.state).detach 
 abbrev pub life_after_crash : CoreLife → Outcome Report
 life_after_crash life = crash_as (line_of life.state).crash life
 
+-- the state that a recovery leads a life to, or why it leads to none, whatever incarnation is left
+abbrev pub recovery_state : CoreLife → Result LifeState LifeFault
+recovery_state life = recovery_state_by (line_of life.state).recovery life.recovery
+
+-- why a life is not recovered, whatever incarnation is left: it isn't crashed, or its recovery is off
+abbrev pub recovery_fault : CoreLife → Option LifeFault
+recovery_fault life = result_err (recovery_state life)
+
 -- a recovery, `rproc_trigger_recovery`
 abbrev pub life_after_recovery : CoreLife → Outcome (Unit {0})
-life_after_recovery life = recovery_to (line_of life.state).recovery life
+life_after_recovery life = recovery_to (recovery_state life) life
 
 -- ---- what calls keep
 

@@ -1,6 +1,6 @@
 ghost use Rattle.std.specs.Prelude.{◌≡◌, ◌≤◌, ◌+◌, ◌==◌, ℕ, true, false, Ok, OnOk, if◌then◌else◌};
 ghost use Rattle.rp_base.specs.declared.kinds.LifeState.TheVariants as state;
-ghost use Rattle.proc_state.specs.Lives.{AreIn, IsReachable, first_start, is_offline, is_up, life_after_boot, life_after_crash, life_after_detach, life_after_handover, life_after_recovery, life_after_shutdown, most, new_life, with_user, without_user};
+ghost use Rattle.proc_state.specs.Lives.{AreIn, IsReachable, first_start, is_offline, is_up, life_after_boot, life_after_crash, life_after_detach, life_after_handover, life_after_recovery, life_after_shutdown, most, new_life, recovery_fault, with_user, without_user};
 ghost use Rattle.proc_state.specs.declared.answers.Left.TheVariants as left;
 ghost use Rattle.proc_state.specs.declared.answers.Power.TheVariants as power;
 
@@ -226,23 +226,33 @@ impl Life {
         }
     }
 
+    /// Why the core is not recovered, whatever incarnation is left: `NotCrashed` where it isn't crashed,
+    /// then `RecoveryOff` where its recovery is off.
+    pub fn recovery_fault(&self) -> Option<LifeFault>
+        ensures { result ≡ recovery_fault self.now }
+    {
+        if self.state != LifeState::Crashed {
+            return Some(LifeFault::NotCrashed);
+        }
+        if !self.recovery {
+            return Some(LifeFault::RecoveryOff);
+        }
+        None
+    }
+
     /// Starts a crashed core again, in its next incarnation (`rproc_trigger_recovery`). Its users
     /// stay.
     ///
-    /// Errors, the first that holds: `NotCrashed` where the core isn't crashed, `RecoveryOff`
-    /// where its recovery is off, `IncarnationsSpent` at incarnation 2^32 - 1. Each leaves the life
-    /// as it was.
+    /// Errors: as [`Life::recovery_fault`] answers, then `IncarnationsSpent` at incarnation 2^32 - 1.
+    /// Each leaves the life as it was.
     pub fn recover(&mut self) -> Result<(), LifeFault>
         ensures left { self.new ≡ (life_after_recovery self.old).life }
         ensures answer { result ≡ (life_after_recovery self.old).answer }
         ensures running { OnOk result (self.new.state ≡ state.Running) }
         ensures users { self.new.users ≡ self.old.users }
     {
-        if self.state != LifeState::Crashed {
-            return Err(LifeFault::NotCrashed);
-        }
-        if !self.recovery {
-            return Err(LifeFault::RecoveryOff);
+        if let Some(fault) = self.recovery_fault() {
+            return Err(fault);
         }
         self.incarnation = next_incarnation(self.incarnation)?;
         self.state = LifeState::Running;

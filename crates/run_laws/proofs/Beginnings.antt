@@ -23,12 +23,14 @@ use Rattle.link_commands.specs.NamedLinks.{NamedLink}
 use Rattle.link_commands.specs.Recoveries.{opened_effect, reopen_effect}
 use Rattle.command_run.specs.CoreLives.{booted_image, found_image}
 use Rattle.command_run.specs.NamedCores.{NamedCoreState}
-use Rattle.command_run.specs.Runs.{RunEffect, RunState, effect_of, effect_of_link, effect_by_link_place, name_effect, place_of, link_effect_at}
+use Rattle.command_run.specs.Runs.{RunEffect, RunState, effect_of}
 use Rattle.run_laws.specs.Kept.{AreKept}
 use Rattle.run_laws.specs.Reopenings.{IsLeftByReopen, IsLinkAt, IsReopened}
 use Rattle.run_laws.specs.Starts.{IsCoreAt, core_at}
+use Rattle.run_laws.proofs.CommandWalks.{link_acts}
+use Rattle.run_laws.proofs.Items.{set_there}
 use Rattle.run_laws.proofs.RunWalks.{item_at}
-use Rattle.run_laws.proofs.StartsInRuns.{boot_leaves, recovery_leaves, set_there}
+use Rattle.run_laws.proofs.StartsInRuns.{boot_leaves, recovery_leaves}
 
 -- ---- links
 
@@ -49,14 +51,12 @@ reopen_leaves on steps = reopened_by on.name on.bench steps (link_reopen_refusal
 
 pub reopens_in_run : (answer : ImageAnswer) (run : RunState) (name : List ℕ) (place : ℕ) (on : NamedLink) → IsLinkAt run name place on
     → IsSomeAnd (slice_get (effect_of answer run (command.Reopen name)).run.objects.links place) (IsLeftByReopen name on.bench)
-unfolding effect_of name_effect
+unfolding effect_of
 reopens_in_run answer run name place on at =
     let wanted = under.Manage manager.Reopen in
-    let effect = link_effect on run.steps wanted in
-    let leaves : effect_by_link_place answer run name wanted (place_of run.objects.links name) ≡ link_effect_at run place on effect =
-    ap (effect_by_link_place answer run name wanted) at.placed ∙ ap (effect_of_link answer run name wanted place) at.found in
     subst (λ (found : Option NamedLink). IsSomeAnd found (IsLeftByReopen name on.bench))
-    (sym (ap (λ (left : RunEffect). slice_get left.run.objects.links place) leaves ∙ set_there run.objects.links place (record on { bench = effect.bench }) on at.found))
+    (sym (ap (λ (left : RunEffect). slice_get left.run.objects.links place) (link_acts answer run name wanted place on at)
+    ∙ set_there run.objects.links place (record on { bench = (link_effect on run.steps wanted).bench }) on at.found))
     (record { name = named_so run name place on at; bench = reopen_leaves on run.steps })
 
 -- ---- cores

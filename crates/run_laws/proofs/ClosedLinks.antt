@@ -1,26 +1,18 @@
 -- What commands leave of a closed link: until it is reopened nothing is handed over.
-use Rattle.std.proofs.Common.{◌≡◌, ◌≢◌, inl, inr, ℕ, zero, suc, ◌+◌, ◌==◌, Bool, false, List, [], ◌∷◌, ◌++◌, length, Option, Some, None, Result, Ok, Err, refl, sym, ap, subst, ◌∙◌, slice_get, slice_set}
+use Rattle.std.proofs.Common.{◌≡◌, ◌≢◌, ℕ, ◌+◌, ◌==◌, false, cond, List, [], Option, Some, refl, sym, ap, subst, ◌∙◌, slice_get, slice_set}
 use Rattle.std.specs.Option.{IsSomeAnd, option_map}
-use Rattle.std.proofs.lemmas.Bool.{cond_both}
-use Rattle.std.proofs.lemmas.Bool.Decides.{eqb_tells}
+use Rattle.std.proofs.lemmas.Bool.{cond_both, eqb-true}
 use Rattle.rp_io.specs.Images.{ImageAnswer}
-use Rattle.rp_base.specs.declared.kinds.Switch.{Switch}
 use Rattle.rp_base.specs.declared.limits.TheConstants.{STEPS_MOST}
-use Rattle.lane_model.specs.declared.calls.LinkConfig.{LinkConfig}
 use Rattle.lane_model.specs.Recoveries.{link_close_refusal}
 use Rattle.channel_bus.specs.Sides.{side_meaning}
 use Rattle.script_lang.specs.declared.commands.Command.{Command}
-use Rattle.script_lang.specs.declared.commands.RegionSet.{RegionSet}
 use Rattle.script_lang.specs.declared.recipes.RecipeLine.{RecipeLine}
 use Rattle.script_lang.specs.Runnable.{IsRunnable}
-use Rattle.image_maker.specs.Images.{image_of}
-use Rattle.journal.specs.declared.events.Event.{Event}
-use Rattle.journal.specs.declared.events.Event.TheVariants as event
 use Rattle.link_bench.specs.Acts.{IsFitAct}
 use Rattle.link_bench.specs.Benches.{BenchState, link_in}
 use Rattle.link_bench.specs.BenchCrashes.{after_close}
 use Rattle.link_bench.specs.Watchers.{nobody_sees}
-use Rattle.link_bench.proofs.Begun.{get-set_other}
 use Rattle.core_laws.specs.BenchMoves.{IsReachedBench}
 use Rattle.core_laws.specs.ClosedLinks.{StaysClosed}
 use Rattle.core_laws.proofs.ClosedMoves.{closed_by}
@@ -29,38 +21,23 @@ use Rattle.core_laws.proofs.BenchMoves.{comes_close}
 use Rattle.core_laws.proofs.LinkMoves.{comes_none}
 use Rattle.link_commands.specs.declared.acts.Line.{Line}
 use Rattle.link_commands.specs.declared.acts.Line.TheVariants as line
-use Rattle.link_commands.specs.declared.acts.Making.{Making}
-use Rattle.link_commands.specs.declared.acts.Making.TheVariants as making
 use Rattle.link_commands.specs.declared.acts.ManagerAct.TheVariants as manager
 use Rattle.link_commands.specs.declared.acts.NamedAct.{NamedAct}
 use Rattle.link_commands.specs.declared.acts.NamedAct.TheVariants as under
 use Rattle.link_commands.specs.declared.stops.Stop.TheVariants as stop
-use Rattle.link_commands.specs.Acts.{line_of}
 use Rattle.link_commands.specs.Effects.{Effect, tells}
 use Rattle.link_commands.specs.LinkCommands.{link_effect}
-use Rattle.command_run.specs.NamedCores.{NamedCoreState}
 use Rattle.link_commands.specs.NamedLinks.{NamedLink}
 use Rattle.link_commands.specs.Recoveries.{close_effect, close_event}
-use Rattle.command_run.specs.Runs.{RunEffect, RunState, effect_by_core_place, core_made_effect, core_place, dump_answer, dump_effect, dump_effect_of, effect_of, effect_of_core, effect_of_link, has_image, image_effect, is_full, line_effect, effect_by_link_place, made_effect, making_effect, name_effect, place_of, quiet_effect, run_tells, unnamed_effect, with_image, without_link_effect}
+use Rattle.command_run.specs.Runs.{RunEffect, RunState, effect_of, place_of}
 use Rattle.run_laws.specs.ClosedLinks.{LeavesClosed, ReopensOther, bench_at}
+use Rattle.run_laws.proofs.CommandWalks.{ActsOnLink, CommandOutcome, MakesLink, outcome}
 use Rattle.run_laws.proofs.CoreWalks.{FitsNamed}
+use Rattle.run_laws.proofs.Items.{get_changed, get_front}
 use Rattle.run_laws.proofs.RunWalks.{FitsLine}
 use Rattle.run_laws.proofs.RunsReached.{line_fits}
-use Rattle.run_laws.proofs.StartsInRuns.{set_there}
-
--- an item stays in its place where others are put behind it
-get_front : {X : Type 0} (items more : List X) (i : ℕ) (item : X) → slice_get items i ≡ Some item → slice_get (items ++ more) i ≡ Some item
-get_front [] more i item found = absurd (cc)
-get_front (x ∷ xs) more zero item found = found
-get_front (x ∷ xs) more (suc i) item found = get_front xs more i item found
-
-same_item : {X : Type 0} (one other : X) → Some one ≡ Some other → one ≡ other
-same_item one other same = cc
 
 module _ (run : RunState) (place : ℕ) (on : NamedLink) (found : slice_get run.objects.links place ≡ Some on) (reached : IsReachedBench on.bench) (shut : (link_in on.bench).era.is_live ≡ false) where
-  abbrev Closed : RunEffect → Type 0
-  Closed effect = LeavesClosed on.bench effect.run place
-
   -- a closed link of which nothing changes
   stays : StaysClosed (link_in on.bench) (link_in on.bench)
   stays = closed_by (link_in on.bench) (link_in on.bench) (comes_none side_meaning (link_in on.bench)) shut
@@ -73,42 +50,6 @@ module _ (run : RunState) (place : ℕ) (on : NamedLink) (found : slice_get run.
 
   unchanged : IsSomeAnd (bench_at run place) (λ (after : BenchState). StaysClosed (link_in on.bench) (link_in after))
   unchanged = by_links run.objects.links on found stays
-
-  -- ---- new links and cores
-
-  made : (name : List ℕ) (config : LinkConfig) (has_service : Bool) → Closed (made_effect run name config has_service)
-  unfolding made_effect
-  made name config has_service =
-      cond_both (is_full run.objects) (run_tells run event.ObjectsFull) _ Closed (λ _. unchanged)
-      (λ _. by_links _ on (get_front run.objects.links _ place on found) stays)
-
-  core_made : (name : List ℕ) (set : RegionSet) (book : ℕ) → Closed (core_made_effect run name set book)
-  unfolding core_made_effect
-  core_made name set book = cond_both (is_full run.objects) (run_tells run event.ObjectsFull) _ Closed (λ _. unchanged) (λ _. unchanged)
-
-  made_so : (name : List ℕ) (wanted : Making) → Closed (making_effect run name wanted)
-  made_so name (making.Link config has_service) = made name config has_service
-  made_so name (making.Core set book) = core_made name set book
-
-  unnamed : (name : List ℕ) (wanted : NamedAct (List ℕ)) → Closed (unnamed_effect run name wanted)
-  unfolding unnamed_effect
-  unnamed name (under.Make asked) = made_so name asked
-  unnamed name (under.Link asked) = unchanged
-  unnamed name (under.Manage managed) = unchanged
-  unnamed name (under.Show shown) = unchanged
-  unnamed name (under.Core asked) = unchanged
-
-  core_at : (answer : ImageAnswer) (name : List ℕ) (wanted : NamedAct (List ℕ)) (at : ℕ) (core : Option NamedCoreState) → Closed (effect_of_core answer run name wanted at core)
-  core_at answer name wanted at None = unnamed name wanted
-  core_at answer name wanted at (Some core) = unchanged
-
-  core_located : (answer : ImageAnswer) (name : List ℕ) (wanted : NamedAct (List ℕ)) (at : Option ℕ) → Closed (effect_by_core_place answer run name wanted at)
-  core_located answer name wanted None = unnamed name wanted
-  core_located answer name wanted (Some at) = core_at answer name wanted at (slice_get run.objects.cores at)
-
-  without_link : (answer : ImageAnswer) (name : List ℕ) (wanted : NamedAct (List ℕ)) → Closed (without_link_effect answer run name wanted)
-  unfolding without_link_effect
-  without_link answer name wanted = core_located answer name wanted (core_place run.objects.cores name)
 
   -- ---- the link itself
 
@@ -129,58 +70,18 @@ module _ (run : RunState) (place : ℕ) (on : NamedLink) (found : slice_get run.
   on_itself (under.Show shown) fits other = stays
   on_itself (under.Core asked) fits other = stays
 
-  -- ---- what is done under a name
-
-  link_at : (answer : ImageAnswer) (name : List ℕ) (wanted : NamedAct (List ℕ)) (at : ℕ) (link : Option NamedLink) → slice_get run.objects.links at ≡ link → FitsNamed IsFitAct wanted
-      → (at ≡ place → wanted ≢ under.Manage manager.Reopen) → Closed (effect_of_link answer run name wanted at link)
-  link_at answer name wanted at None none fits other = without_link answer name wanted
-  link_at answer name wanted at (Some link) there fits other = elim (eqb_tells place at) [
-    | inl same ↦ (let one : link ≡ on = same_item link on (sym there ∙ ap (slice_get run.objects.links) (sym same.1) ∙ found) in
-        let now : NamedLink = record link { bench = (link_effect link run.steps wanted).bench } in
-        by_links (slice_set run.objects.links at now) now
-        (ap (slice_get (slice_set run.objects.links at now)) same.1 ∙ set_there run.objects.links at now link there)
-        (subst (λ (item : NamedLink). StaysClosed (link_in on.bench) (link_in (link_effect item run.steps wanted).bench)) (sym one) (on_itself wanted fits (other (sym same.1)))))
-    | inr differ ↦ by_links (slice_set run.objects.links at (record link { bench = (link_effect link run.steps wanted).bench })) on
-        (get-set_other run.objects.links at place _ differ.1 ∙ found) stays
-  ]
-
-  located : (answer : ImageAnswer) (name : List ℕ) (wanted : NamedAct (List ℕ)) (at : Option ℕ) → FitsNamed IsFitAct wanted → (at ≡ Some place → wanted ≢ under.Manage manager.Reopen)
-      → Closed (effect_by_link_place answer run name wanted at)
-  located answer name wanted None fits other = without_link answer name wanted
-  located answer name wanted (Some at) fits other = link_at answer name wanted at (slice_get run.objects.links at) refl fits (λ same. other (ap Some same))
-
-  by_name : (answer : ImageAnswer) (name : List ℕ) (wanted : NamedAct (List ℕ)) → FitsNamed IsFitAct wanted → (place_of run.objects.links name ≡ Some place → wanted ≢ under.Manage manager.Reopen)
-      → Closed (name_effect answer run name wanted)
-  unfolding name_effect
-  by_name answer name wanted fits other = located answer name wanted (place_of run.objects.links name) fits other
-
   -- ---- commands
 
-  imaged : (name : List ℕ) (lines : List RecipeLine) → Closed (image_effect run name lines)
-  unfolding image_effect
-  imaged name lines =
-      cond_both (has_image run.objects.images name) (run_tells run (event.ImageExists name))
-      (run_tells (with_image run name (image_of lines)) (event.Image name (length (image_of lines)))) Closed (λ _. unchanged) (λ _. unchanged)
-
-  quieted : (set : Switch) → Closed (quiet_effect run set)
-  unfolding quiet_effect
-  quieted set = unchanged
-
-  dumped : (image : List ℕ) (answered : Result (List ℕ) Event) → Closed (dump_effect_of run image answered)
-  dumped image (Ok bytes) = unchanged
-  dumped image (Err told) = unchanged
-
-  dump_closed : (name image : List ℕ) → Closed (dump_effect run name image)
-  unfolding dump_effect
-  dump_closed name image = dumped image (dump_answer run.objects name image)
-
-  by_line : (answer : ImageAnswer) (wanted : Line (List RecipeLine) (List ℕ)) → FitsLine IsFitAct wanted
-      → ((name : List ℕ) → wanted ≡ line.On name (under.Manage manager.Reopen) → place_of run.objects.links name ≢ Some place) → Closed (line_effect answer run wanted)
-  by_line answer (line.Image name lines) fits other = imaged name lines
-  by_line answer (line.Quiet set) fits other = quieted set
-  by_line answer (line.Dump name image) fits other = dump_closed name image
-  by_line answer (line.On name wanted) fits other = by_name answer name wanted fits (λ here same. other name (ap (line.On name) same) here)
+  -- whatever the outcome of a command is that reopens no link but another one
+  outcome_closed : {answer : ImageAnswer} {done : Line (List RecipeLine) (List ℕ)} {effect : RunEffect} → CommandOutcome answer run done effect → FitsLine IsFitAct done
+      → ((name : List ℕ) → done ≡ line.On name (under.Manage manager.Reopen) → place_of run.objects.links name ≢ Some place) → LeavesClosed on.bench effect.run place
+  outcome_closed (MakesLink name config has_service none) fits other = by_links _ on (get_front run.objects.links _ place on found) stays
+  outcome_closed (ActsOnLink name wanted at link is) fits other =
+      let now : NamedLink → NamedLink = λ link. record link { bench = (link_effect link run.steps wanted).bench } in
+      by_links (slice_set run.objects.links at (now link)) (cond (at == place) (now on) on) (get_changed now run.objects.links at place link on is.found found)
+      (cond_both (at == place) (now on) on (λ (after : NamedLink). StaysClosed (link_in on.bench) (link_in after.bench))
+      (λ same. on_itself wanted fits (λ reopens. other name (ap (line.On name) reopens) (is.placed ∙ ap Some (eqb-true at place same)))) (λ _. stays))
+  outcome_closed came fits other = unchanged
 
   pub stays_closed : (answer : ImageAnswer) (asked : Command) → IsRunnable asked → ReopensOther run place asked → LeavesClosed on.bench (effect_of answer run asked).run place
-  unfolding effect_of
-  stays_closed answer asked runs other = by_line answer (line_of asked) (line_fits asked runs) other
+  stays_closed answer asked runs other = outcome_closed (outcome answer run asked) (line_fits asked runs) other

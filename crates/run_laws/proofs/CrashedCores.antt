@@ -5,17 +5,12 @@ use Rattle.std.proofs.lemmas.Bool.{cond_both}
 use Rattle.rp_io.specs.Images.{ImageAnswer}
 use Rattle.rp_base.specs.declared.kinds.LifeState.{LifeState}
 use Rattle.rp_base.specs.declared.kinds.LifeState.TheVariants.{Crashed}
-use Rattle.rp_base.specs.declared.kinds.DriverKind.{DriverKind}
-use Rattle.memory_pool.specs.declared.regions.Region.{Region}
-use Rattle.crash_recover.specs.Cores.{add_fault}
 use Rattle.crash_recover.specs.CoreActs.{act_on_core}
-use Rattle.crash_recover.specs.Cores.{driver_add_fault}
 use Rattle.proc_state.specs.declared.answers.LifeFault.TheVariants as life_fault
 use Rattle.proc_state.specs.declared.answers.Power.{Power}
 use Rattle.proc_state.specs.Lives.{Outcome, boot_to, crash_as, handover_to, is_up, leave_to, line_of, most, refusal_of, with_user}
 use Rattle.link_bench.specs.declared.acts.LinkAct.{LinkAct}
 use Rattle.link_bench.specs.Benches.{BenchState, link_in}
-use Rattle.crash_recover.specs.declared.core_faults.AddFault.{AddFault}
 use Rattle.crash_recover.specs.Cores.{CoreState}
 use Rattle.crash_recover.specs.CoreBoots.{boot_as, boot_of, handover_as, handover_of}
 use Rattle.crash_recover.specs.CoreCrashes.{report_as, report_of}
@@ -27,22 +22,23 @@ use Rattle.act_laws.proofs.ActMoves.{act_closed}
 use Rattle.core_laws.proofs.LinkMoves.{comes_none}
 use Rattle.channel_bus.specs.Sides.{side_meaning}
 use Rattle.journal.specs.declared.events.Event.TheVariants as event
-use Rattle.link_commands.specs.declared.acts.CoreAct.{CoreAct}
 use Rattle.link_commands.specs.declared.acts.CoreAct.TheVariants as act
 use Rattle.link_commands.specs.declared.acts.NamedAct.{NamedAct}
 use Rattle.link_commands.specs.declared.acts.NamedAct.TheVariants as under
 use Rattle.link_commands.specs.declared.acts.StartAct.TheVariants as starts
 use Rattle.link_commands.specs.Acts.{IsFitNamed}
-use Rattle.command_run.specs.CoreCommands.{added_effect, core_act_effect, core_effect, driver_effect_unless, driver_effect, region_effect}
+use Rattle.command_run.specs.CoreCommands.{core_effect}
 use Rattle.command_run.specs.CoreDrives.{drive_effect, drive_steps}
 use Rattle.command_run.specs.CoreEffects.{CoreEffect, core_tells}
 use Rattle.command_run.specs.CoreLinks.{core_link_effect}
-use Rattle.command_run.specs.CoreLives.{crash_effect, detach_effect, found_image, may_step, shutdown_effect, started_effect}
+use Rattle.command_run.specs.CoreLives.{found_image, may_step}
 use Rattle.command_run.specs.NamedCores.{NamedCoreState}
 use Rattle.command_run.specs.NamedImages.{ImageState}
-use Rattle.command_run.specs.Runs.{RunEffect, RunState, effect_by_core_place, effect_of_core, effect_by_link_place, name_effect, place_of, core_effect_at, without_link_effect}
+use Rattle.command_run.specs.Runs.{RunEffect, RunState, name_effect}
 use Rattle.run_laws.specs.CrashedCores.{LinkStaysClosed, StaysCrashed}
 use Rattle.run_laws.specs.Starts.{IsCoreAt, core_at}
+use Rattle.run_laws.proofs.CommandWalks.{core_acts}
+use Rattle.run_laws.proofs.CoreActWalks.{ActOutcome, AddsDriver, AddsRegion, Crashes, Detaches, Drives, LinkActs, ShutsDown, Starts, Switches, act_outcome}
 use Rattle.run_laws.proofs.StartsInRuns.{core_behind}
 
 -- a link that is closed
@@ -100,16 +96,6 @@ module _ (core : CoreState) (crashed : core.life.state ≡ Crashed) (reached : I
       subst (λ (state : LifeState). StaysCrashed core (report_as may (crash_as (line_of state).crash core.life).life (crash_as (line_of state).crash core.life).answer core).core)
       (sym crashed) unchanged
 
-  -- ---- what a core is made of
-
-  region_added : (name : List ℕ) (steps : ℕ) (region : Region) (why : Option AddFault) → StaysCrashed core (added_effect name core steps region why).core
-  region_added name steps region None = stays _ crashed refl
-  region_added name steps region (Some why) = unchanged
-
-  driver_added : (name : List ℕ) (steps : ℕ) (channel : List ℕ) (kind : DriverKind) (why : Option AddFault) → StaysCrashed core (driver_effect_unless name core steps channel kind why).core
-  driver_added name steps channel kind None = stays _ crashed refl
-  driver_added name steps channel kind (Some why) = unchanged
-
   undriven : (name : List ℕ) (is_quiet : Bool) (steps count : ℕ) → StaysCrashed core (drive_effect name is_quiet core steps count).core
   unfolding drive_effect
   undriven name is_quiet steps count =
@@ -131,39 +117,27 @@ module _ (core : CoreState) (crashed : core.life.state ≡ Crashed) (reached : I
 -- ---- what is done under the name
 
 module _ (images : List ImageState) (answer : ImageAnswer) (is_quiet : Bool) (on : NamedCoreState) (steps : ℕ) (crashed : on.core.life.state ≡ Crashed) (reached : IsReachedCore on.core) (shut : IfSome on.core.bench Shut) where
-  on_core : (asked : CoreAct) → asked ≢ act.Start starts.Recover → StaysCrashed on.core (core_act_effect images answer is_quiet on steps asked).core
-  unfolding core_act_effect region_effect driver_effect started_effect shutdown_effect detach_effect crash_effect
-  on_core (act.Region region) other = region_added on.core crashed reached shut on.name steps region (add_fault on.core region)
-  on_core (act.Driver channel kind) other = driver_added on.core crashed reached shut on.name steps channel kind (driver_add_fault on.core channel)
-  on_core (act.Start (starts.Boot image)) other = booted on.core crashed reached shut image (found_image images answer image)
-  on_core (act.Start (starts.Handover image)) other = handed_over on.core crashed reached shut image (found_image images answer image)
-  on_core act.Shutdown other = shut_down on.core crashed reached shut (may_step steps)
-  on_core act.Detach other = detached on.core crashed reached shut (may_step steps)
-  on_core (act.Show shown) other = unchanged on.core crashed reached shut
-  on_core (act.Crash kind) other = reported on.core crashed reached shut (may_step steps)
-  on_core (act.Start starts.Recover) other = absurd (other refl)
-  on_core (act.Recovery set) other = stays on.core crashed reached shut _ crashed refl
-  on_core (act.Drive count) other = undriven on.core crashed reached shut on.name is_quiet steps count
-
-  under_name : (wanted : NamedAct (List ℕ)) → IsFitNamed wanted → wanted ≢ under.Core (act.Start starts.Recover) → StaysCrashed on.core (core_effect images answer is_quiet on steps wanted).core
-  unfolding core_effect
-  under_name (under.Make made) fits other = unchanged on.core crashed reached shut
-  under_name (under.Link asked) fits other = acted on.core crashed reached shut on.name steps asked on.core.bench refl fits
-  under_name (under.Manage managed) fits other = unchanged on.core crashed reached shut
-  under_name (under.Show shown) fits other = unchanged on.core crashed reached shut
-  under_name (under.Core asked) fits other = on_core asked (λ same. other (ap under.Core same))
+  -- whatever the outcome of an act is that is no recovery
+  outcome_crashed : {wanted : NamedAct (List ℕ)} {effect : CoreEffect} → ActOutcome images answer is_quiet on steps wanted effect → IsFitNamed wanted → wanted ≢ under.Core (act.Start starts.Recover) → StaysCrashed on.core effect.core
+  outcome_crashed (LinkActs asked) fits other = acted on.core crashed reached shut on.name steps asked on.core.bench refl fits
+  outcome_crashed (AddsRegion region clear) fits other = stays on.core crashed reached shut _ crashed refl
+  outcome_crashed (AddsDriver channel kind) fits other = stays on.core crashed reached shut _ crashed refl
+  outcome_crashed (Starts (starts.Boot image)) fits other = booted on.core crashed reached shut image (found_image images answer image)
+  outcome_crashed (Starts (starts.Handover image)) fits other = handed_over on.core crashed reached shut image (found_image images answer image)
+  outcome_crashed (Starts starts.Recover) fits other = absurd (other refl)
+  outcome_crashed ShutsDown fits other = shut_down on.core crashed reached shut (may_step steps)
+  outcome_crashed Detaches fits other = detached on.core crashed reached shut (may_step steps)
+  outcome_crashed (Crashes kind) fits other = reported on.core crashed reached shut (may_step steps)
+  outcome_crashed (Drives count) fits other = undriven on.core crashed reached shut on.name is_quiet steps count
+  outcome_crashed (Switches set) fits other = stays on.core crashed reached shut _ crashed refl
+  outcome_crashed came fits other = unchanged on.core crashed reached shut
 
 -- what is done under the name of a crashed core of a run
 pub stays_crashed : (answer : ImageAnswer) (run : RunState) (name : List ℕ) (place : ℕ) (on : NamedCoreState) (wanted : NamedAct (List ℕ)) → IsCoreAt run name place on → IsFitNamed wanted
     → IsReachedCore on.core → on.core.life.state ≡ Crashed → IfSome on.core.bench (λ (bench : BenchState). (link_in bench).era.is_live ≡ false) → wanted ≢ under.Core (act.Start starts.Recover)
     → IsSomeAnd (core_at (name_effect answer run name wanted).run place) (StaysCrashed on.core)
-unfolding name_effect without_link_effect
 stays_crashed answer run name place on wanted at fits reached crashed shut other =
-    let effect : CoreEffect = core_effect run.objects.images answer run.objects.is_quiet on run.steps wanted in
-    let leaves : effect_by_link_place answer run name wanted (place_of run.objects.links name) ≡ core_effect_at run place on effect =
-    ap (effect_by_link_place answer run name wanted) at.unlinked
-    ∙ ap (effect_by_core_place answer run name wanted) at.placed
-    ∙ ap (effect_of_core answer run name wanted place) at.found in
     subst (λ (found : Option CoreState). IsSomeAnd found (StaysCrashed on.core))
-    (sym (ap (λ (left : RunEffect). core_at left.run place) leaves ∙ core_behind run name place on effect at))
-    (under_name run.objects.images answer run.objects.is_quiet on run.steps crashed reached shut wanted fits other)
+    (sym (ap (λ (left : RunEffect). core_at left.run place) (core_acts answer run name wanted place on at)
+    ∙ core_behind run name place on (core_effect run.objects.images answer run.objects.is_quiet on run.steps wanted) at))
+    (outcome_crashed run.objects.images answer run.objects.is_quiet on run.steps crashed reached shut (act_outcome run.objects.images answer run.objects.is_quiet on run.steps wanted) fits other)

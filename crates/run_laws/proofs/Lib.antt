@@ -1,5 +1,8 @@
+pub mod Items
 pub mod ScriptDrives
+pub mod CoreActWalks
 pub mod CoreWalks
+pub mod CommandWalks
 pub mod RunWalks
 pub mod RunsReached
 pub mod CoresKept

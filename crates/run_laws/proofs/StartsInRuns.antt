@@ -1,5 +1,5 @@
 -- Boots and handovers of a core of a run.
-use Rattle.std.proofs.Common.{◌≡◌, ◌≢◌, ◌↔◌, ℕ, zero, suc, List, [], ◌∷◌, Option, Some, refl, sym, ap, ◌∙◌, slice_get, slice_set}
+use Rattle.std.proofs.Common.{◌≡◌, ◌≢◌, ◌↔◌, ℕ, List, Option, Some, sym, ap, ◌∙◌}
 use Rattle.std.specs.Option.{option_map}
 use Rattle.rp_io.specs.Images.{ImageAnswer}
 use Rattle.rp_base.specs.declared.kinds.LifeState.{LifeState}
@@ -14,7 +14,7 @@ use Rattle.command_run.specs.NamedCores.{NamedCoreState}
 use Rattle.command_run.specs.CoreCommands.{core_act_effect, core_effect}
 use Rattle.command_run.specs.CoreEffects.{CoreEffect}
 use Rattle.command_run.specs.CoreLives.{booted_image, crash_effect, detach_effect, found_image, may_step, shutdown_effect, started_effect}
-use Rattle.command_run.specs.Runs.{RunEffect, RunState, effect_by_core_place, effect_of, effect_of_core, effect_by_link_place, name_effect, core_effect_at, without_link_effect}
+use Rattle.command_run.specs.Runs.{RunEffect, RunState, effect_of, name_effect, core_effect_at}
 use Rattle.rp_base.specs.declared.kinds.CrashKind.{CrashKind}
 use Rattle.crash_recover.specs.CoreBoots.{boot_of, handover_of}
 use Rattle.crash_recover.specs.CoreCrashes.{report_of}
@@ -23,32 +23,21 @@ use Rattle.crash_recover.specs.CoreRecoveries.{recovery_of}
 use Rattle.core_laws.specs.FoundImages.{FindsLoadable}
 use Rattle.core_laws.proofs.Starts.{attaches_where, boots_where, hands_over_where}
 use Rattle.run_laws.specs.Starts.{IsCoreAt, core_at, state_at}
-
--- what is set at a place stands there
-pub set_there : {X : Type 0} (items : List X) (i : ℕ) (item found : X) → slice_get items i ≡ Some found → slice_get (slice_set items i item) i ≡ Some item
-set_there [] i item found is = absurd (cc)
-set_there (x ∷ xs) zero item found is = refl
-set_there (x ∷ xs) (suc i) item found is = set_there xs i item found is
+use Rattle.run_laws.proofs.CommandWalks.{core_acts}
+use Rattle.run_laws.proofs.Items.{set_there, some_is}
 
 -- a core's act, by what it leaves of the core
 act_at : (answer : ImageAnswer) (run : RunState) (name : List ℕ) (place : ℕ) (on : NamedCoreState) (act : CoreAct) → IsCoreAt run name place on
     → name_effect answer run name (under.Core act)
     ≡ core_effect_at run place on (core_act_effect run.objects.images answer run.objects.is_quiet on run.steps act)
-unfolding name_effect without_link_effect core_effect
-act_at answer run name place on act at =
-    ap (effect_by_link_place answer run name (under.Core act)) at.unlinked
-    ∙ ap (effect_by_core_place answer run name (under.Core act)) at.placed
-    ∙ ap (effect_of_core answer run name (under.Core act) place) at.found
+unfolding core_effect
+act_at answer run name place on act at = core_acts answer run name (under.Core act) place on at
 
 -- the state of the core behind it
 state_behind : (run : RunState) (name : List ℕ) (place : ℕ) (on : NamedCoreState) (effect : CoreEffect) → IsCoreAt run name place on
     → state_at (core_effect_at run place on effect).run place ≡ Some effect.core.life.state
 state_behind run name place on effect at =
     ap (option_map (λ (on : NamedCoreState). on.core.life.state)) (set_there run.objects.cores place (record on { core = effect.core }) on at.found)
-
--- a state that is known is a state that was found
-some_is : {A : Type 0} (x y : A) → Some x ≡ Some y → x ≡ y
-some_is x y is = cc
 
 comes_to : {P : Type 0} (now : Option LifeState) (state to : LifeState) → now ≡ Some state → (state ≡ to) ↔ P → (now ≡ Some to) ↔ P
 comes_to now state to is both = (λ there. both.0 (some_is state to (sym is ∙ there)), λ p. is ∙ ap Some (both.1 p))

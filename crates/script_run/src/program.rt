@@ -60,9 +60,8 @@ pub fn run_program<R: Threads + Wait + Sync, S: Source, F: FirmwareStore, K: Sin
 ) -> u8
     requires { is_bare yard.old ≡ true }
     ensures ends { let form = form_of (map (λ word. word.now) words.now) in
-        let before = devices S.Source F.FirmwareStore K.Sink script.old store.old out.old in
-        let now = devices S.Source F.FirmwareStore K.Sink script.new store.new out.new in
-        ProgramEnds (status_of result) form before now yard.old yard.new }
+        let at = devices S.Source F.FirmwareStore K.Sink in
+        ProgramEnds (status_of result) form (at script.old store.old out.old) (at script.new store.new out.new) yard.old yard.new }
     ensures read { reads_source (form_of (map (λ word. word.now) words.now)) ≡ true → IsReadAnswer (status_of result) → IsAtEnd (S.left script.new) }
     ensures taken { LosesFront (S.left script.old) (S.left script.new) (source_most (form_of (map (λ word. word.now) words.now))) }
     ensures unread { reads_source (form_of (map (λ word. word.now) words.now)) ≡ false → script.new ≡ script.old }
@@ -84,9 +83,8 @@ fn answer<R: Threads + Wait + Sync, S: Source, F: FirmwareStore, K: Sink>(
 ) -> Status
     requires { is_bare yard.old ≡ true }
     ensures ends { let form = form_of (map (λ word. word.now) words.now) in
-        let before = devices S.Source F.FirmwareStore K.Sink script.old store.old out.old in
-        let now = devices S.Source F.FirmwareStore K.Sink script.new store.new out.new in
-        FormEnds result form before now yard.old yard.new }
+        let at = devices S.Source F.FirmwareStore K.Sink in
+        FormEnds result form (at script.old store.old out.old) (at script.new store.new out.new) yard.old yard.new }
     ensures read { reads_source (form_of (map (λ word. word.now) words.now)) ≡ true → IsReadEnd result → IsAtEnd (S.left script.new) }
     ensures taken { LosesFront (S.left script.old) (S.left script.new) (source_most (form_of (map (λ word. word.now) words.now))) }
     ensures unread { reads_source (form_of (map (λ word. word.now) words.now)) ≡ false → script.new ≡ script.old }
@@ -115,9 +113,8 @@ fn run_text<S: Source, F: FirmwareStore, K: Sink>(
     out: &mut K,
 ) -> Status
     requires { is_bare yard.old ≡ true }
-    ensures ends { let before = devices S.Source F.FirmwareStore K.Sink script.old store.old out.old in
-        let now = devices S.Source F.FirmwareStore K.Sink script.new store.new out.new in
-        FormEnds result run_form before now yard.old yard.new }
+    ensures ends { let at = devices S.Source F.FirmwareStore K.Sink in
+        FormEnds result run_form (at script.old store.old out.old) (at script.new store.new out.new) yard.old yard.new }
     ensures read { IsReadEnd result → IsAtEnd (S.left script.new) }
     ensures taken { LosesFront (S.left script.old) (S.left script.new) (SCRIPT_MOST + 1) }
     ensures unasked { SourceAsksNone (S.left script.old) → store.new ≡ store.old }

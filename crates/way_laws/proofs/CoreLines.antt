@@ -3,7 +3,6 @@ use Rattle.std.proofs.Common.{◌≡◌, ℕ, Bool, false, List, Option, Some, N
 use Rattle.std.proofs.lemmas.Bool.{true≢false}
 use Rattle.rp_io.specs.Images.{ImageAnswer}
 use Rattle.rp_base.specs.declared.kinds.CrashKind.{CrashKind}
-use Rattle.rp_base.specs.declared.kinds.DriverKind.{DriverKind}
 use Rattle.rp_io.specs.declared.faults.NoImage.TheVariants as no_image
 use Rattle.fw_load.specs.Faults.{load_fault_index, load_fault_number}
 use Rattle.proc_state.specs.declared.answers.LifeFault.{LifeFault}
@@ -28,21 +27,21 @@ use Rattle.crash_recover.specs.CoreCallers.{core_turn_holder}
 use Rattle.crash_recover.specs.CoreCrashes.{report_of}
 use Rattle.crash_recover.specs.CoreLeaves.{detach_of, shutdown_of}
 use Rattle.crash_recover.specs.CoreRings.{core_ring}
-use Rattle.crash_recover.specs.Cores.{CoreState, LoadState, add_fault, core_memory, driver_add_fault}
-use Rattle.link_commands.specs.declared.acts.CoreAct.{CoreAct}
+use Rattle.crash_recover.specs.Cores.{CoreState, LoadState, core_memory}
 use Rattle.link_commands.specs.declared.acts.CoreAct.TheVariants as core
 use Rattle.link_commands.specs.declared.acts.CoreView.{CoreView}
 use Rattle.link_commands.specs.declared.acts.CoreView.TheVariants as shows
 use Rattle.link_commands.specs.declared.acts.LinkView.{LinkView}
 use Rattle.link_commands.specs.declared.acts.LinkView.TheVariants as view
 use Rattle.link_commands.specs.declared.acts.NamedAct.{NamedAct}
-use Rattle.link_commands.specs.declared.acts.NamedAct.TheVariants as under
-use Rattle.command_run.specs.CoreCommands.{add_fault_events, added_effect, core_act_effect, core_effect, driver_effect, driver_effect_unless, region_effect}
+use Rattle.command_run.specs.CoreEffects.{CoreEffect}
+use Rattle.command_run.specs.CoreCommands.{add_fault_events, core_effect}
 use Rattle.command_run.specs.CoreLinks.{core_ring_events, found_ring_events, found_view_events, link_view_events, shown_ring_events}
-use Rattle.command_run.specs.CoreLives.{crash_effect, crash_events, detach_effect, fault_at, found_image, leave_events, leave_fault_event, life_fault_event, may_step, report_events, shutdown_effect, start_events, start_fault_events, start_name, start_with, started_effect}
+use Rattle.command_run.specs.CoreLives.{crash_events, fault_at, found_image, leave_events, leave_fault_event, life_fault_event, may_step, report_events, start_events, start_fault_events, start_name, start_with}
 use Rattle.command_run.specs.CoreViews.{core_view_events, loaded_table_events, memory_event, shown_memory_event, shown_trace_event, table_event, table_events, trace_bytes, trace_event}
 use Rattle.command_run.specs.NamedCores.{NamedCoreState}
 use Rattle.command_run.specs.NamedImages.{ImageState}
+use Rattle.run_laws.proofs.CoreActWalks.{ActOutcome, Crashes, Detaches, Drives, LinkActs, RefusesDriver, RefusesRegion, ShowsCore, ShowsLink, ShutsDown, Starts, act_outcome}
 use Rattle.way_laws.specs.CommandTakes.{may_take}
 use Rattle.way_laws.specs.WordedTakes.{is_take_line}
 use Rattle.way_laws.proofs.LinkLines.{HaveNoTakes, each_none, reopen_none, ring_none, view_none}
@@ -78,23 +77,6 @@ module _ (name : List ℕ) where
   unadded_none channel add.DriverTaken = (refl, tt)
   unadded_none channel add.DriversFull = (refl, tt)
   unadded_none channel add.NoMemory = tt
-
-  module _ (core : CoreState) (steps : ℕ) where
-    added_none : (region : Region) (found : Option AddFault) → HaveNoTakes (added_effect name core steps region found).events
-    added_none region None = (refl, tt)
-    added_none region (Some why) = unadded_none name why
-
-    region_none : (region : Region) → HaveNoTakes (region_effect name core steps region).events
-    unfolding region_effect
-    region_none region = added_none region (add_fault core region)
-
-    declared_none : (channel : List ℕ) (kind : DriverKind) (found : Option AddFault) → HaveNoTakes (driver_effect_unless name core steps channel kind found).events
-    declared_none channel kind None = (refl, tt)
-    declared_none channel kind (Some why) = unadded_none channel why
-
-    driver_none : (channel : List ℕ) (kind : DriverKind) → HaveNoTakes (driver_effect name core steps channel kind).events
-    unfolding driver_effect
-    driver_none channel kind = declared_none channel kind (driver_add_fault core channel)
 
   -- ---- starts, leaves and crashes
 
@@ -164,24 +146,19 @@ module _ (name : List ℕ) where
 -- ---- what is done under the name of a core
 
 module _ (images : List ImageState) (answer : ImageAnswer) (is_quiet : Bool) (on : NamedCoreState) (steps : ℕ) where
-  act_none : (asked : CoreAct) → may_take (under.Core asked) ≡ false → HaveNoTakes (core_act_effect images answer is_quiet on steps asked).events
-  unfolding core_act_effect started_effect shutdown_effect detach_effect crash_effect
-  act_none (core.Region region) none = region_none on.name on.core steps region
-  act_none (core.Driver channel kind) none = driver_none on.name on.core steps channel kind
-  act_none (core.Start begun) none =
-      let image = start_name begun on in
-      start_none on.name image (start_with begun on.core (found_image images answer image)).answer
-  act_none core.Shutdown none = leave_none on.name (event.Offline on.name) (shutdown_of (may_step steps) on.core).answer refl
-  act_none core.Detach none = leave_none on.name (event.Detached on.name) (detach_of (may_step steps) on.core).answer refl
-  act_none (core.Show shown) none = shown_none on.name on.core shown
-  act_none (core.Crash kind) none = report_none on.name kind (report_of (may_step steps) on.core).answer
-  act_none (core.Recovery set) none = (refl, tt)
-  act_none (core.Drive count) none = absurd (true≢false none)
+  -- whatever the outcome of an act is that may take nothing
+  outcome_none : {wanted : NamedAct (List ℕ)} {effect : CoreEffect} → ActOutcome images answer is_quiet on steps wanted effect → may_take wanted ≡ false → HaveNoTakes effect.events
+  outcome_none (ShowsLink shown) none = core_link_none on.name on.core shown
+  outcome_none (ShowsCore shown) none = shown_none on.name on.core shown
+  outcome_none (LinkActs asked) none = absurd (true≢false none)
+  outcome_none (RefusesRegion region why) none = unadded_none on.name on.name why
+  outcome_none (RefusesDriver channel kind why) none = unadded_none on.name channel why
+  outcome_none (Starts start) none = let image = start_name start on in start_none on.name image (start_with start on.core (found_image images answer image)).answer
+  outcome_none ShutsDown none = leave_none on.name (event.Offline on.name) (shutdown_of (may_step steps) on.core).answer refl
+  outcome_none Detaches none = leave_none on.name (event.Detached on.name) (detach_of (may_step steps) on.core).answer refl
+  outcome_none (Crashes kind) none = report_none on.name kind (report_of (may_step steps) on.core).answer
+  outcome_none (Drives count) none = absurd (true≢false none)
+  outcome_none came none = (refl, tt)
 
   pub core_none : (wanted : NamedAct (List ℕ)) → may_take wanted ≡ false → HaveNoTakes (core_effect images answer is_quiet on steps wanted).events
-  unfolding core_effect
-  core_none (under.Make made) none = (refl, tt)
-  core_none (under.Link asked) none = absurd (true≢false none)
-  core_none (under.Manage managed) none = (refl, tt)
-  core_none (under.Show shown) none = core_link_none on.name on.core shown
-  core_none (under.Core asked) none = act_none asked none
+  core_none wanted none = outcome_none (act_outcome images answer is_quiet on steps wanted) none

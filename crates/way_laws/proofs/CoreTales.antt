@@ -4,16 +4,13 @@ use Rattle.std.proofs.lemmas.Bool.{cond_both}
 use Rattle.rp_io.specs.Images.{ImageAnswer}
 use Rattle.rp_base.specs.declared.kinds.End.{End}
 use Rattle.rp_base.specs.declared.kinds.End.TheVariants as side
-use Rattle.rp_base.specs.declared.kinds.CrashKind.{CrashKind}
-use Rattle.rp_base.specs.declared.kinds.DriverKind.{DriverKind}
-use Rattle.memory_pool.specs.declared.regions.Region.{Region}
 use Rattle.fw_load.specs.declared.rings.RingPair.{RingPair}
 use Rattle.proc_state.specs.declared.answers.Left.{Left as LeftTo}
 use Rattle.proc_state.specs.declared.answers.Left.TheVariants as left_to
 use Rattle.proc_state.specs.declared.answers.LifeFault.{LifeFault}
 use Rattle.proc_state.specs.declared.answers.Power.{Power}
 use Rattle.proc_state.specs.declared.answers.Power.TheVariants as power
-use Rattle.proc_state.specs.Lives.{CoreLife, is_offline, is_up, life_after_boot, life_after_detach, life_after_handover, life_after_shutdown}
+use Rattle.proc_state.specs.Lives.{CoreLife, is_offline, is_up, life_after_boot, life_after_detach, life_after_handover, life_after_shutdown, recovery_fault}
 use Rattle.lane_model.specs.Links.{LinkState}
 use Rattle.lane_laws.specs.Moves.{Enlist, link_after_move}
 use Rattle.lane_laws.specs.Ways.{IsOpened}
@@ -33,32 +30,30 @@ use Rattle.crash_recover.specs.declared.core_answers.Start.TheVariants as start
 use Rattle.crash_recover.specs.declared.core_faults.LeaveFault.{LeaveFault}
 use Rattle.crash_recover.specs.declared.core_faults.StartFault.{StartFault}
 use Rattle.crash_recover.specs.declared.core_faults.StartFault.TheVariants as start_fault
-use Rattle.crash_recover.specs.declared.core_faults.AddFault.{AddFault}
 use Rattle.crash_recover.specs.CoreCrashes.{report_of}
 use Rattle.crash_recover.specs.CoreActs.{core_act_on}
 use Rattle.crash_recover.specs.CoreBoots.{boot_as, boot_of, config_of, core_bench, first_boot, fresh_end, handover_as, handover_of, image_fault, load_in, started_core, with_load}
 use Rattle.crash_recover.specs.CoreLeaves.{close_or, detach_of, detached_core, leave_as, live_inc, shutdown_of, unloaded_core}
-use Rattle.crash_recover.specs.CoreRecoveries.{after_recovery, core_to_reopen, recovery_fault, recovery_of, reload_fault, reopen_fault}
-use Rattle.crash_recover.specs.Cores.{CoreOutcome, CoreState, add_fault, driver_add_fault, loaded_rings, refuse_or}
+use Rattle.crash_recover.specs.CoreRecoveries.{after_recovery, core_to_reopen, recovery_of, reload_fault, reopen_fault}
+use Rattle.crash_recover.specs.Cores.{CoreOutcome, CoreState, loaded_rings, refuse_or}
 use Rattle.core_actors.specs.Actors.{driver_names}
 use Rattle.core_actors.specs.ActorEnds.{actors_after_end}
 use Rattle.crash_recover.specs.Drives.{drive_step}
 use Rattle.core_laws.specs.BenchMoves.{IsReachedBench, IsReachedCore}
 use Rattle.core_laws.proofs.DriveWalks.{both_known}
-use Rattle.link_commands.specs.declared.acts.CoreAct.{CoreAct}
 use Rattle.link_commands.specs.declared.acts.CoreAct.TheVariants as act
 use Rattle.link_commands.specs.declared.acts.NamedAct.{NamedAct}
-use Rattle.link_commands.specs.declared.acts.NamedAct.TheVariants as under
 use Rattle.link_commands.specs.declared.acts.StartAct.{StartAct}
 use Rattle.link_commands.specs.declared.acts.StartAct.TheVariants as starts
-use Rattle.command_run.specs.CoreCommands.{added_effect, core_act_effect, core_effect, driver_effect_unless, driver_effect, region_effect}
+use Rattle.command_run.specs.CoreCommands.{core_effect}
 use Rattle.command_run.specs.CoreDrives.{drive_effect, drive_steps}
 use Rattle.command_run.specs.CoreEffects.{CoreEffect, core_tells}
 use Rattle.command_run.specs.CoreLinks.{core_link_effect}
-use Rattle.command_run.specs.CoreLives.{booted_image, crash_effect, detach_effect, found_image, may_step, shutdown_effect, started_effect}
+use Rattle.command_run.specs.CoreLives.{booted_image, found_image, may_step, start_name, start_with}
 use Rattle.command_run.specs.NamedCores.{NamedCoreState}
 use Rattle.command_run.specs.NamedImages.{ImageState}
 use Rattle.run_laws.specs.Drives.{after_steps, drive_made}
+use Rattle.run_laws.proofs.CoreActWalks.{ActOutcome, Crashes, Detaches, Drives, LinkActs, ShutsDown, Starts, act_outcome, link_effect_core}
 use Rattle.run_laws.proofs.CoreWalks.{FitsNamed}
 use Rattle.run_laws.proofs.CoresReady.{IsSoundCore, may_drive, sound_cores}
 use Rattle.run_laws.proofs.ScriptDrives.{drive_as, drive_while_up}
@@ -242,34 +237,9 @@ act_calm : (end : End) (core : CoreState) (steps : ℕ) (asked : LinkAct (List �
 act_calm end core steps asked None = Open tt
 act_calm end core steps asked (Some bench) = Open (act_open actors_after_end 2 bench core.actors steps asked)
 
-pub link_effect_bench : (name : List ℕ) (core : CoreState) (steps : ℕ) (asked : LinkAct (List ℕ)) (found : Option BenchState) → (core_link_effect name core steps asked found).core ≡ (core_act_on core steps asked found).core
-unfolding core_link_effect
-link_effect_bench name core steps asked None = refl
-link_effect_bench name core steps asked (Some bench) = refl
-
 -- ---- what is done under the name of a core
 
 module _ (end : End) (images : List ImageState) (answer : ImageAnswer) (on : NamedCoreState) (steps : ℕ) (account : Option Account) (is : TaleIf end on.core.bench account) where
-  -- the link is as it was
-  abbrev Same : CoreEffect → Type 0
-  Same effect = TaleIf end effect.core.bench account
-
-  added : (region : Region) (why : Option AddFault) → Same (added_effect on.name on.core steps region why)
-  added region None = is
-  added region (Some why) = is
-
-  region_same : (region : Region) → Same (region_effect on.name on.core steps region)
-  unfolding region_effect
-  region_same region = added region (add_fault on.core region)
-
-  declared : (channel : List ℕ) (kind : DriverKind) (why : Option AddFault) → Same (driver_effect_unless on.name on.core steps channel kind why)
-  declared channel kind None = is
-  declared channel kind (Some why) = is
-
-  driver_same : (channel : List ℕ) (kind : DriverKind) → Same (driver_effect on.name on.core steps channel kind)
-  unfolding driver_effect
-  driver_same channel kind = declared channel kind (driver_add_fault on.core channel)
-
   image_left : (why : Option StartFault) (done : CoreOutcome Start StartFault) → TaleIf end done.core.bench account → TaleIf end (refuse_or on.core why done).core.bench account
   image_left None done rest = rest
   image_left (Some why) done rest = is
@@ -280,49 +250,32 @@ module _ (end : End) (images : List ImageState) (answer : ImageAnswer) (on : Nam
 
   -- ---- lives
 
-  start_on : (start : StartAct) → TaleIf end (started_effect start images answer on steps).core.bench (life_account end images answer on steps (act.Start start) account)
-  unfolding started_effect handover_of
+  start_on : (start : StartAct) → TaleIf end (start_with start on.core (found_image images answer (start_name start on))).core.bench (life_account end images answer on steps (act.Start start) account)
+  unfolding handover_of
   start_on (starts.Boot image) = boot_tale end on.core account is image (found_image images answer image)
   start_on (starts.Handover image) =
       handover_left (life_after_handover on.core.life).life (life_after_handover on.core.life).answer image (found_image images answer image)
   start_on starts.Recover = recovery_tale end on.core account is (found_image images answer (booted_image on.name on.core))
 
-  shutdown_on : TaleIf end (shutdown_effect on.name on.core steps).core.bench (life_account end images answer on steps act.Shutdown account)
-  unfolding shutdown_effect
-  shutdown_on = shutdown_tale end on.core account is (may_step steps)
-
-  detach_on : TaleIf end (detach_effect on.name on.core steps).core.bench (life_account end images answer on steps act.Detach account)
-  unfolding detach_effect
-  detach_on = detach_tale end on.core account is (may_step steps)
-
-  crash_on : (kind : CrashKind) → TaleIf end (crash_effect on.name on.core steps kind).core.bench (life_account end images answer on steps (act.Crash kind) account)
-  unfolding crash_effect
-  crash_on kind = deeds_if end on.core.bench account _ (report_of (may_step steps) on.core).core.bench is (Silent (reported_none end (report_of (may_step steps) on.core).answer on.core.bench)) (report_lands (may_step steps) on.core)
-
-  core_act_tale : (is_quiet : Bool) (asked : CoreAct) → IsSoundCore on.core → TaleIf end (core_act_effect images answer is_quiet on steps asked).core.bench (life_account end images answer on steps asked account)
-  unfolding core_act_effect
-  core_act_tale is_quiet (act.Region region) sound = region_same region
-  core_act_tale is_quiet (act.Driver channel kind) sound = driver_same channel kind
-  core_act_tale is_quiet (act.Start start) sound = start_on start
-  core_act_tale is_quiet act.Shutdown sound = shutdown_on
-  core_act_tale is_quiet act.Detach sound = detach_on
-  core_act_tale is_quiet (act.Show shown) sound = is
-  core_act_tale is_quiet (act.Crash kind) sound = crash_on kind
-  core_act_tale is_quiet (act.Recovery set) sound = is
-  core_act_tale is_quiet (act.Drive count) sound = drive_tale end on.name is_quiet on.core steps count account sound is
-
   linked_tale : (asked : LinkAct (List ℕ)) → IsFitAct asked → IsReachedCore on.core
       → TaleIf end (core_link_effect on.name on.core steps asked on.core.bench).core.bench (deed_account end on.core.bench (core_act_deeds on.core on.core.bench steps asked) account)
   linked_tale asked fit reached =
-      subst (λ (core : CoreState). TaleIf end core.bench (deed_account end on.core.bench (core_act_deeds on.core on.core.bench steps asked) account)) (sym (link_effect_bench on.name on.core steps asked on.core.bench))
+      subst (λ (core : CoreState). TaleIf end core.bench (deed_account end on.core.bench (core_act_deeds on.core on.core.bench steps asked) account)) (sym (link_effect_core on.name on.core steps asked on.core.bench))
       (deeds_if end on.core.bench account _ (core_act_on on.core steps asked on.core.bench).core.bench is (act_calm end on.core steps asked on.core.bench)
       (act_lands_if on.core steps asked on.core.bench refl fit reached.bench))
 
+  -- whatever the outcome of an act is: it leaves the link as it was, but where its deeds are told
+  outcome_tale : {is_quiet : Bool} {wanted : NamedAct (List ℕ)} {effect : CoreEffect} → ActOutcome images answer is_quiet on steps wanted effect → FitsNamed IsFitAct wanted → IsSoundCore on.core
+      → TaleIf end effect.core.bench (core_account_after end images answer on steps wanted account)
+  outcome_tale (LinkActs asked) fits sound = linked_tale asked fits sound.reached
+  outcome_tale (Starts start) fits sound = start_on start
+  outcome_tale ShutsDown fits sound = shutdown_tale end on.core account is (may_step steps)
+  outcome_tale Detaches fits sound = detach_tale end on.core account is (may_step steps)
+  outcome_tale (Crashes kind) fits sound =
+      deeds_if end on.core.bench account _ (report_of (may_step steps) on.core).core.bench is (Silent (reported_none end (report_of (may_step steps) on.core).answer on.core.bench)) (report_lands (may_step steps) on.core)
+  outcome_tale {is_quiet = is_quiet} (Drives count) fits sound = drive_tale end on.name is_quiet on.core steps count account sound is
+  outcome_tale came fits sound = is
+
   pub core_tale : (is_quiet : Bool) (wanted : NamedAct (List ℕ)) → FitsNamed IsFitAct wanted → IsSoundCore on.core
       → TaleIf end (core_effect images answer is_quiet on steps wanted).core.bench (core_account_after end images answer on steps wanted account)
-  unfolding core_effect
-  core_tale is_quiet (under.Make made) fits sound = is
-  core_tale is_quiet (under.Link asked) fits sound = linked_tale asked fits sound.reached
-  core_tale is_quiet (under.Manage managed) fits sound = is
-  core_tale is_quiet (under.Show shown) fits sound = is
-  core_tale is_quiet (under.Core asked) fits sound = core_act_tale is_quiet asked sound
+  core_tale is_quiet wanted fits sound = outcome_tale (act_outcome images answer is_quiet on steps wanted) fits sound

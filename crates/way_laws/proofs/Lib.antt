@@ -1,4 +1,4 @@
-pub mod LinksAfter
+pub mod DoneAt
 pub mod LinkTales
 pub mod Noted
 pub mod RunTales
@@ -18,3 +18,5 @@ pub mod CoreLines
 pub mod OtherLines
 pub mod EveryLine
 pub mod WholeRuns
+pub mod DriveOrder
+pub mod ToldTakes

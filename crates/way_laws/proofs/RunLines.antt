@@ -1,5 +1,5 @@
 -- The lines of takes of the commands of a run.
-use Rattle.std.proofs.Common.{◌≡◌, ℕ, ◌&&◌, Bool, true, false, cond, List, Option, Some, None, is_none, option_and_then, slice_get, refl, sym, ap, subst, ◌∙◌, inl, inr}
+use Rattle.std.proofs.Common.{◌≡◌, ℕ, ◌&&◌, Bool, true, false, cond, List, Option, Some, None, bytes_eq, is_none, option_and_then, slice_get, refl, sym, ap, subst, ◌∙◌, inl, inr}
 use Rattle.std.specs.Prelude.{IfSome}
 use Rattle.std.proofs.lemmas.Bool.{true≢false}
 use Rattle.std.proofs.lemmas.Bool.Decides.{eqb_tells}
@@ -20,10 +20,12 @@ use Rattle.link_commands.specs.LinkCommands.{link_effect}
 use Rattle.link_commands.specs.NamedLinks.{NamedLink}
 use Rattle.command_run.specs.CoreCommands.{core_act_effect, core_effect}
 use Rattle.command_run.specs.NamedCores.{NamedCoreState}
-use Rattle.command_run.specs.Runs.{RunEffect, RunState, effect_by_core_place, core_place, effect_of, effect_of_core, effect_of_link, line_effect, effect_by_link_place, name_effect, place_of, run_of, without_link_effect}
+use Rattle.command_run.specs.Runs.{RunEffect, RunState, core_place, effect_of, line_effect, name_effect, place_of, run_of}
 use Rattle.command_run.specs.Stores.{Told}
+use Rattle.run_laws.proofs.CommandWalks.{core_acts, link_acts}
 use Rattle.run_laws.proofs.CoreWalks.{FitsNamed}
 use Rattle.run_laws.proofs.CoresReady.{IsSoundCore}
+use Rattle.run_laws.proofs.Items.{some_is, stands}
 use Rattle.run_laws.proofs.RunWalks.{item_at}
 use Rattle.run_laws.proofs.RunsReached.{line_fits, run_sound}
 use Rattle.way_laws.specs.CoreAccounts.{core_act_deeds, done_on_core, drive_takes, is_unlinked}
@@ -32,12 +34,12 @@ use Rattle.way_laws.specs.WordedTakes.{AreLinesAmong, AreLinesOfTakes}
 use Rattle.way_laws.proofs.DriveLines.{drive_among}
 use Rattle.way_laws.proofs.LinkLines.{named_lines}
 use Rattle.way_laws.proofs.RunCoreTales.{cores_come, done_fits as core_done_fits}
-use Rattle.way_laws.proofs.RunTales.{done_fits, links_come, same_item}
+use Rattle.way_laws.proofs.RunTales.{done_fits, links_come}
 use Rattle.way_laws.proofs.TakeLines.{core_act_lines}
 
 -- a choice that is there was made
 chosen : {X : Type 0} (test : Bool) (one wanted : X) → cond test (Some one) None ≡ Some wanted → (test ≡ true) × (one ≡ wanted)
-chosen true one wanted is = (refl, same_item one wanted is)
+chosen true one wanted is = (refl, some_is one wanted is)
 chosen false one wanted is = absurd (cc)
 
 same_place : (at : Option ℕ) (place : ℕ) → is_place at place ≡ true → at ≡ Some place
@@ -51,42 +53,35 @@ same_place (Some at) place is = elim (eqb_tells at place) [
 
 module _ (answer : ImageAnswer) (run : RunState) (place : ℕ) (on : NamedLink) (found : slice_get run.objects.links place ≡ Some on) where
   link_line : (now : Line (List RecipeLine) (List ℕ)) (wanted : NamedAct (List ℕ)) → done_at run place now ≡ Some wanted → (line_effect answer run now).events ≡ (link_effect on run.steps wanted).events
-  unfolding name_effect
   link_line (line.Image name lines) wanted is = absurd (cc)
   link_line (line.Quiet set) wanted is = absurd (cc)
   link_line (line.Dump name image) wanted is = absurd (cc)
   link_line (line.On name act) wanted is =
       let made = chosen (is_place (place_of run.objects.links name) place) act wanted is in
-      ap (λ (at : Option ℕ). (effect_by_link_place answer run name act at).events) (same_place (place_of run.objects.links name) place made.0)
-      ∙ ap (λ (link : Option NamedLink). (effect_of_link answer run name act place link).events) found
+      ap (λ (effect : RunEffect). effect.events) (link_acts answer run name act place on (record { placed = same_place (place_of run.objects.links name) place made.0; found = found }))
       ∙ ap (λ (w : NamedAct (List ℕ)). (link_effect on run.steps w).events) made.1
 
-  link_tells : (asked : Command) (wanted : NamedAct (List ℕ)) → done_at run place (line_of asked) ≡ Some wanted → (effect_of answer run asked).events ≡ (link_effect on run.steps wanted).events
+  pub link_tells : (asked : Command) (wanted : NamedAct (List ℕ)) → done_at run place (line_of asked) ≡ Some wanted → (effect_of answer run asked).events ≡ (link_effect on run.steps wanted).events
   unfolding effect_of
   link_tells asked wanted is = link_line (line_of asked) wanted is
 
 -- ---- what a command tells that does something on a core
 
--- under a name that no link has
-module _ (answer : ImageAnswer) (run : RunState) where
-  none_found : (name : List ℕ) (act : NamedAct (List ℕ)) (at : ℕ) (link : Option NamedLink) → is_none link ≡ true → effect_of_link answer run name act at link ≡ without_link_effect answer run name act
-  none_found name act at None none = refl
-  none_found name act at (Some link) none = absurd (true≢false (sym none))
-
-  pub none_located : (name : List ℕ) (act : NamedAct (List ℕ)) (at : Option ℕ) → is_none (option_and_then (slice_get run.objects.links) at) ≡ true → effect_by_link_place answer run name act at ≡ without_link_effect answer run name act
-  none_located name act None none = refl
-  none_located name act (Some at) none = none_found name act at (slice_get run.objects.links at) none
+-- where no link is found by a name it has no place
+linkless : (run : RunState) (name : List ℕ) (at : Option ℕ) → place_of run.objects.links name ≡ at → is_none (option_and_then (slice_get run.objects.links) at) ≡ true → at ≡ None
+linkless run name None placed none = refl
+linkless run name (Some at) placed none =
+    absurd (true≢false (sym none ∙ stands (λ (named : NamedLink). bytes_eq named.name name) run.objects.links at placed))
 
 module _ (answer : ImageAnswer) (run : RunState) (place : ℕ) (on : NamedCoreState) (found : slice_get run.objects.cores place ≡ Some on) where
   core_named : (name : List ℕ) (act wanted : NamedAct (List ℕ)) (unlinked : Bool) → is_unlinked run name ≡ unlinked → cond (unlinked && is_place (core_place run.objects.cores name) place) (Some act) None ≡ Some wanted
       → (name_effect answer run name act).events ≡ (core_effect run.objects.images answer run.objects.is_quiet on run.steps wanted).events
-  unfolding name_effect without_link_effect
   core_named name act wanted false none is = absurd (cc)
   core_named name act wanted true none is =
       let made = chosen (is_place (core_place run.objects.cores name) place) act wanted is in
-      ap (λ (effect : RunEffect). effect.events) (none_located answer run name act (place_of run.objects.links name) none)
-      ∙ ap (λ (at : Option ℕ). (effect_by_core_place answer run name act at).events) (same_place (core_place run.objects.cores name) place made.0)
-      ∙ ap (λ (named : Option NamedCoreState). (effect_of_core answer run name act place named).events) found
+      ap (λ (effect : RunEffect). effect.events)
+      (core_acts answer run name act place on
+      (record { unlinked = linkless run name (place_of run.objects.links name) refl none; placed = same_place (core_place run.objects.cores name) place made.0; found = found }))
       ∙ ap (λ (w : NamedAct (List ℕ)). (core_effect run.objects.images answer run.objects.is_quiet on run.steps w).events) made.1
 
   core_line : (now : Line (List RecipeLine) (List ℕ)) (wanted : NamedAct (List ℕ)) → done_on_core run place now ≡ Some wanted

@@ -1,8 +1,7 @@
 -- The account of each link of a run tells its tale.
-use Rattle.std.proofs.Common.{◌≡◌, ℕ, zero, suc, ◌==◌, Bool, cond, List, [], ◌∷◌, ◌++◌, Option, Some, None, IfSome, is_some, slice_get, slice_set, refl, sym, ap, subst, ◌∙◌, inl, inr}
+use Rattle.std.proofs.Common.{◌≡◌, ℕ, ◌==◌, Bool, true, false, cond, List, Option, Some, None, IfSome, is_some, slice_get, refl, sym, ap, subst, ◌∙◌}
 use Rattle.std.specs.Option.{IsSomeAnd, option_map}
 use Rattle.std.proofs.lemmas.Bool.{cond_both, true≢false}
-use Rattle.std.proofs.lemmas.Bool.Decides.{eqb_tells}
 use Rattle.rp_io.specs.Images.{ImageAnswer}
 use Rattle.rp_base.specs.Limits.{IsRingSize}
 use Rattle.rp_base.specs.declared.kinds.End.{End}
@@ -14,7 +13,6 @@ use Rattle.script_lang.specs.declared.recipes.RecipeLine.{RecipeLine}
 use Rattle.script_lang.specs.Runnable.{AreRunnable, IsBook, IsRunnable}
 use Rattle.link_bench.specs.Acts.{IsFitAct}
 use Rattle.link_bench.specs.Benches.{BenchState, link_in}
-use Rattle.link_bench.proofs.Begun.{get-set_other}
 use Rattle.core_laws.specs.BenchMoves.{IsReachedBench}
 use Rattle.link_commands.specs.declared.acts.Line.{Line}
 use Rattle.link_commands.specs.declared.acts.Line.TheVariants as line
@@ -23,41 +21,22 @@ use Rattle.link_commands.specs.declared.acts.Making.TheVariants as making
 use Rattle.link_commands.specs.declared.acts.NamedAct.{NamedAct}
 use Rattle.link_commands.specs.declared.acts.NamedAct.TheVariants as under
 use Rattle.link_commands.specs.Acts.{line_of}
+use Rattle.link_commands.specs.LinkCommands.{link_effect}
 use Rattle.link_commands.specs.NamedLinks.{NamedLink}
-use Rattle.command_run.specs.Runs.{RunState, effect_of, new_run, place_of, run_of}
+use Rattle.command_run.specs.Runs.{RunEffect, RunState, effect_of, new_run, place_of, run_of}
 use Rattle.command_run.specs.Stores.{Told}
+use Rattle.run_laws.proofs.CommandWalks.{ActsOnCore, ActsOnLink, CommandOutcome, HasNoRoom, MakesCore, MakesLink, NamesNothing, made_link, outcome}
 use Rattle.run_laws.proofs.CoreWalks.{FitsNamed}
+use Rattle.run_laws.proofs.Items.{get_changed, get_front, get_none_set, get_pushed, some_is}
 use Rattle.run_laws.proofs.RunWalks.{FitsLine, item_at}
 use Rattle.run_laws.proofs.RunsReached.{AreSound, command_sound, line_fits, none_sound}
-use Rattle.run_laws.proofs.StartsInRuns.{set_there}
 use Rattle.act_laws.specs.Accounts.{Account, IsAccount, new_account}
 use Rattle.way_laws.specs.WordedTakes.{ComesFromOpening}
 use Rattle.way_laws.specs.RunAccounts.{account_behind, account_of, accounting, done_at, is_place, next_account}
-use Rattle.way_laws.proofs.LinksAfter.{HoldsAfter, IsUntouched, holds_after, link_behind, made_link}
+use Rattle.way_laws.proofs.DoneAt.{done_by_place}
 use Rattle.way_laws.proofs.LinkTales.{link_tale, made_tale}
 use Rattle.way_laws.proofs.Noted.{noted_kept}
 use Rattle.act_laws.proofs.Tales.{IsSoundTale, account_is}
-
--- ---- items of lists
-
-pub get_none_set : {X : Type 0} (items : List X) (i place : ℕ) (item : X) → slice_get items place ≡ None → slice_get (slice_set items i item) place ≡ None
-get_none_set [] i place item none = refl
-get_none_set (x ∷ xs) zero zero item none = absurd (true≢false (ap is_some none))
-get_none_set (x ∷ xs) zero (suc place) item none = none
-get_none_set (x ∷ xs) (suc i) zero item none = none
-get_none_set (x ∷ xs) (suc i) (suc place) item none = get_none_set xs i place item none
-
-pub get_front : {X : Type 0} (items more : List X) (i : ℕ) (item : X) → slice_get items i ≡ Some item → slice_get (items ++ more) i ≡ Some item
-get_front [] more i item found = absurd (cc)
-get_front (x ∷ xs) more zero item found = found
-get_front (x ∷ xs) more (suc i) item found = get_front xs more i item found
-
--- behind the last item stands the new one, and nothing behind that
-pub get_pushed : {X : Type 0} (P : X → Type 0) (items : List X) (place : ℕ) (item : X) → slice_get items place ≡ None → P item → IfSome (slice_get (items ++ item ∷ []) place) P
-get_pushed P [] zero item none is = is
-get_pushed P [] (suc place) item none is = tt
-get_pushed P (x ∷ xs) zero item none is = absurd (true≢false (ap is_some none))
-get_pushed P (x ∷ xs) (suc place) item none is = get_pushed P xs place item none is
 
 -- ---- what is known of lines
 
@@ -83,59 +62,56 @@ done_fits run place (line.Dump name image) fits = tt
 done_fits run place (line.On name wanted) fits =
     cond_both (is_place (place_of run.objects.links name) place) (Some wanted) None (λ (found : Option (NamedAct (List ℕ))). IfSome found (FitsNamed IsFitAct)) (λ _. fits) (λ _. tt)
 
--- a link behind what is done on it, if anything is
+-- a link behind what is done under its name
+abbrev link_behind : NamedLink → ℕ → NamedAct (List ℕ) → NamedLink
+link_behind on steps wanted = record on { bench = (link_effect on steps wanted).bench }
+
+-- the same, if anything is done
 abbrev now_of : NamedLink → ℕ → Option (NamedAct (List ℕ)) → NamedLink
 now_of on steps None = on
 now_of on steps (Some wanted) = link_behind on steps wanted
 
-pub same_item : {X : Type 0} (one other : X) → Some one ≡ Some other → one ≡ other
-same_item one other same = cc
+-- where it is done by a test
+now_if : (on : NamedLink) (steps : ℕ) (wanted : NamedAct (List ℕ)) (test : Bool) → cond test (link_behind on steps wanted) on ≡ now_of on steps (cond test (Some wanted) None)
+now_if on steps wanted true = refl
+now_if on steps wanted false = refl
 
 -- ---- one command
 
-module _ (run : RunState) (done : Line (List RecipeLine) (List ℕ)) (place : ℕ) where
+module _ (answer : ImageAnswer) (run : RunState) (place : ℕ) where
   -- the link at the place, where there is one
   module _ (on : NamedLink) (found : slice_get run.objects.links place ≡ Some on) where
-    abbrev There : List NamedLink → Type 0
-    There links = slice_get links place ≡ Some (now_of on run.steps (done_at run place done))
+    abbrev There : Line (List RecipeLine) (List ℕ) → List NamedLink → Type 0
+    There done links = slice_get links place ≡ Some (now_of on run.steps (done_at run place done))
 
-    untouched : (links : List NamedLink) → slice_get links place ≡ Some on → IsUntouched run done → There links
-    untouched links there none = there ∙ ap (λ (acted : Option (NamedAct (List ℕ))). Some (now_of on run.steps acted)) (sym (none place on found))
+    -- where nothing is done on it
+    as_it_was : {there : Option NamedLink} {acted : Option (NamedAct (List ℕ))} → acted ≡ None → there ≡ Some on → there ≡ Some (now_of on run.steps acted)
+    as_it_was none there = there ∙ ap (λ (acted : Option (NamedAct (List ℕ))). Some (now_of on run.steps acted)) (sym none)
 
-    there_after : HoldsAfter run done There
-    there_after = record {
-      same = λ none. untouched run.objects.links found none;
-      made = λ name config has_service none is. untouched _ (get_front run.objects.links _ place on found) none;
-      put = λ name wanted at link is placed there.
-          let acted : done_at run place done ≡ cond (at == place) (Some wanted) None =
-          ap (done_at run place) is ∙ ap (λ (p : Option ℕ). cond (is_place p place) (Some wanted) None) placed in
-          elim (eqb_tells at place) [
-            | inl same ↦ (let one : link ≡ on = same_item link on (sym there ∙ ap (slice_get run.objects.links) same.1 ∙ found) in
-                ap (slice_get (slice_set run.objects.links at (link_behind link run.steps wanted))) (sym same.1)
-                ∙ set_there run.objects.links at (link_behind link run.steps wanted) link there
-                ∙ ap (λ (l : NamedLink). Some (link_behind l run.steps wanted)) one
-                ∙ ap (λ (b : Bool). Some (now_of on run.steps (cond b (Some wanted) None))) (sym same.0)
-                ∙ ap (λ (a : Option (NamedAct (List ℕ))). Some (now_of on run.steps a)) (sym acted))
-            | inr differ ↦ get-set_other run.objects.links at place (link_behind link run.steps wanted) (λ same. differ.1 (sym same)) ∙ found
-                ∙ ap (λ (b : Bool). Some (now_of on run.steps (cond b (Some wanted) None))) (sym differ.0)
-                ∙ ap (λ (a : Option (NamedAct (List ℕ))). Some (now_of on run.steps a)) (sym acted)
-          ];
-    }
+    -- whatever the outcome of a command is
+    there_after : {done : Line (List RecipeLine) (List ℕ)} {effect : RunEffect} → CommandOutcome answer run done effect → There done effect.run.objects.links
+    there_after (NamesNothing name wanted none) = as_it_was (done_by_place run place name wanted None none.linkless) found
+    there_after (HasNoRoom name made none) = as_it_was (done_by_place run place name (under.Make made) None none.linkless) found
+    there_after (MakesLink name config has_service none) = as_it_was (done_by_place run place name (under.Make (making.Link config has_service)) None none.linkless) (get_front run.objects.links _ place on found)
+    there_after (MakesCore name set book none) = as_it_was (done_by_place run place name (under.Make (making.Core set book)) None none.linkless) found
+    there_after (ActsOnCore name wanted at core is) = as_it_was (done_by_place run place name wanted None is.unlinked) found
+    there_after (ActsOnLink name wanted at link is) =
+        get_changed (λ (link : NamedLink). link_behind link run.steps wanted) run.objects.links at place link on is.found found ∙ ap Some (now_if on run.steps wanted (at == place))
+        ∙ ap (λ (acted : Option (NamedAct (List ℕ))). Some (now_of on run.steps acted)) (sym (done_by_place run place name wanted (Some at) is.placed))
+    there_after came = found
 
   -- a new link at the place, where there was none
-  module _ (end : End) (none : slice_get run.objects.links place ≡ None) (fit : MakesFit done) where
+  module _ (end : End) (none : slice_get run.objects.links place ≡ None) where
     abbrev IsNew : NamedLink → Type 0
     IsNew made = IsSoundTale end made.bench (new_account (link_in made.bench))
 
-    new_after : HoldsAfter run done (λ links. IfSome (slice_get links place) IsNew)
-    new_after = record {
-      same = λ _. subst (λ (found : Option NamedLink). IfSome found IsNew) (sym none) tt;
-      made = λ name config has_service _ is.
-          let fits = subst MakesFit is fit in
-          get_pushed IsNew run.objects.links place (made_link name config has_service) none (made_tale end config has_service fits.0 fits.1 fits.2);
-      put = λ name wanted at link is placed there.
-          subst (λ (found : Option NamedLink). IfSome found IsNew) (sym (get_none_set run.objects.links at place (link_behind link run.steps wanted) none)) tt;
-    }
+    abbrev IfNew : Option NamedLink → Type 0
+    IfNew found = IfSome found IsNew
+
+    new_after : {done : Line (List RecipeLine) (List ℕ)} {effect : RunEffect} → CommandOutcome answer run done effect → MakesFit done → IfNew (slice_get effect.run.objects.links place)
+    new_after (MakesLink name config has_service nameless) fit = get_pushed IsNew run.objects.links place (made_link name config has_service) none (made_tale end config has_service fit.0 fit.1 fit.2)
+    new_after (ActsOnLink name wanted at link is) fit = subst IfNew (sym (get_none_set run.objects.links at place (link_behind link run.steps wanted) none)) tt
+    new_after came fit = subst IfNew (sym none) tt
 
 -- the link at a place and its account, which both are there or neither is
 abbrev pub AreLevel : End → Option NamedLink → Option Account → Type 0
@@ -162,12 +138,12 @@ module _ (end : End) (place : ℕ) (answer : ImageAnswer) (run : RunState) (aske
       → AreLevel end (slice_get after.objects.links place) (next_account end place run (line_of asked) after found account)
   next_level None None none is =
       new_level end (slice_get after.objects.links place)
-      (holds_after answer run asked _ (new_after run (line_of asked) place end none (makes_fit asked runs)))
+      (new_after answer run place end none (outcome answer run asked) (makes_fit asked runs))
   next_level None (Some account) none is = absurd is
   next_level (Some on) None found is = absurd is
   next_level (Some on) (Some account) found is =
       subst (λ (now : Option NamedLink). AreLevel end now (Some (account_behind end on.bench run.steps (done_at run place (line_of asked)) account)))
-      (sym (holds_after answer run asked _ (there_after run (line_of asked) place on found)))
+      (sym (there_after answer run place on found (outcome answer run asked)))
       (behind_tale end on run.steps (done_at run place (line_of asked)) account (done_fits run place (line_of asked) (line_fits asked runs))
       (item_at (λ (named : NamedLink). IsReachedBench named.bench) run.objects.links place on found sound.links) is)
 
@@ -191,7 +167,7 @@ told_at : (end : End) (found : Option NamedLink) (account : Option Account) (on 
 told_at end None account on none is = absurd (true≢false (ap is_some (sym none)))
 told_at end (Some link) None on found is = absurd is
 told_at end (Some link) (Some account) on found is =
-    subst (λ (l : NamedLink). IsAccount end (link_in l.bench) account) (same_item link on found) (account_is end link.bench account is.tale)
+    subst (λ (l : NamedLink). IsAccount end (link_in l.bench) account) (some_is link on found) (account_is end link.bench account is.tale)
 
 pub links_told : (end : End) (told : Told) (commands : List Command) (place : ℕ) (on : NamedLink) → AreRunnable commands → slice_get (run_of told commands).last.objects.links place ≡ Some on
     → IsSomeAnd (account_of end place told commands) (IsAccount end (link_in on.bench))
@@ -203,7 +179,7 @@ level_at : (end : End) (found : Option NamedLink) (account : Option Account) (on
     → ((account : Account) → IsSoundTale end on.bench account → P on.bench) → P on.bench
 level_at end None account on P none is rest = absurd (true≢false (ap is_some (sym none)))
 level_at end (Some link) None on P found is rest = absurd is
-level_at end (Some link) (Some account) on P found is rest = rest account (subst (λ (l : NamedLink). IsSoundTale end l.bench account) (same_item link on found) is)
+level_at end (Some link) (Some account) on P found is rest = rest account (subst (λ (l : NamedLink). IsSoundTale end l.bench account) (some_is link on found) is)
 
 module _ (told : Told) (commands : List Command) (place : ℕ) (on : NamedLink) (runs : AreRunnable commands) (found : slice_get (run_of told commands).last.objects.links place ≡ Some on) where
   pub links_sound : HasSoundRings on.bench.rings

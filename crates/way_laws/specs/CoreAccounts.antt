@@ -2,18 +2,19 @@
 use Rattle.std.specs.Prelude.{ℕ, zero, suc, ◌&&◌, Bool, List, [], ◌++◌, slice_get, Option, Some, None, is_none, option_and_then, option_map, Result, Ok, Err, if◌then◌else◌}
 use Rattle.rp_io.specs.Images.{ImageAnswer}
 use Rattle.rp_base.specs.declared.kinds.End.{End}
-use Rattle.proc_state.specs.Lives.{is_up}
+use Rattle.proc_state.specs.Lives.{is_up, recovery_fault}
 use Rattle.lane_laws.specs.Handings.{Handing}
 use Rattle.script_lang.specs.declared.commands.Command.{Command}
 use Rattle.script_lang.specs.declared.recipes.RecipeLine.{RecipeLine}
 use Rattle.link_bench.specs.declared.acts.LinkAct.{LinkAct}
 use Rattle.link_bench.specs.Benches.{BenchState, link_in}
+use Rattle.crash_recover.specs.declared.core_acts.TheConstants.{OWN_CALLERS}
 use Rattle.crash_recover.specs.declared.core_answers.Start.{Start}
 use Rattle.crash_recover.specs.declared.core_faults.StartFault.{StartFault}
 use Rattle.crash_recover.specs.CoreBoots.{boot_of, load_in}
 use Rattle.crash_recover.specs.CoreCrashes.{report_of}
 use Rattle.crash_recover.specs.CoreLeaves.{detach_of, shutdown_of}
-use Rattle.crash_recover.specs.CoreRecoveries.{after_recovery, recovery_fault, reload_fault, reopen_fault}
+use Rattle.crash_recover.specs.CoreRecoveries.{after_recovery, reload_fault, reopen_fault}
 use Rattle.crash_recover.specs.Cores.{CoreState}
 use Rattle.core_actors.specs.ActorEnds.{actors_after_end}
 use Rattle.crash_recover.specs.Drives.{drive_step}
@@ -109,7 +110,7 @@ life_account end images answer on steps other account = account
 -- an act on the link that a core has, whose first two callers are its own
 abbrev pub core_act_deeds : CoreState → Option BenchState → ℕ → LinkAct (List ℕ) → Deeds
 core_act_deeds on None steps asked = no_deeds
-core_act_deeds on (Some bench) steps asked = act_deeds actors_after_end 2 bench on.actors steps asked
+core_act_deeds on (Some bench) steps asked = act_deeds actors_after_end OWN_CALLERS bench on.actors steps asked
 
 -- behind what is done under the name of a core
 abbrev pub core_account_after : End → List ImageState → ImageAnswer → NamedCoreState → ℕ → NamedAct (List ℕ) → Option Account → Option Account

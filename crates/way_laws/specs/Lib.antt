@@ -2,4 +2,5 @@ pub mod Notes
 pub mod RunAccounts
 pub mod CoreAccounts
 pub mod WordedTakes
+pub mod TakersLines
 pub mod CommandTakes

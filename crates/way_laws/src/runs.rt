@@ -42,6 +42,7 @@ ghost use Rattle.act_laws.specs.Accounts.{Account, IsAccount};
 ghost use Rattle.way_laws.specs.CommandTakes.{AreTakesOfRun, IsTakeInRun, core_takes, line_may_take};
 ghost use Rattle.way_laws.specs.CoreAccounts.{core_account_of, core_act_deeds, done_on_core, drive_account, drive_takes};
 ghost use Rattle.way_laws.specs.RunAccounts.{account_of, done_at, named_takes};
+ghost use Rattle.way_laws.specs.TakersLines.{drive_lines, lines_of};
 ghost use Rattle.way_laws.specs.WordedTakes.{AreLinesAmong, AreLinesOfTakes, ComesFromOpening, IsWordedTake, TellNoTakes, is_take_line};
 
 /// After each list of commands, and so after each front of a script, a link of the run comes by the run's own moves since it was made or last
@@ -142,4 +143,24 @@ pub fn lines_have_takes()
         → let run = (run_of told commands).last in AreTakesOfRun run (line_of asked) (effect_of answer run asked).events }
     ensures whole { (told : Told) (commands : List Command) → AreRunnable commands
         → All (λ (event : Event). is_take_line event ≡ true → IsTakeInRun told commands event) (run_of told commands).events }
+{}
+
+/// And each take has its line. Where a call of an act on a link ended as a take, the command tells the line of that call and nothing else. A drive of a
+/// core tells for each of the core's actors the lines of all that the actor is told, one by one, in the order in which they were handed over, and no
+/// line of another caller's take; in a quiet run it tells none of them.
+pub fn takes_have_lines()
+    ensures act { (found : ImageAnswer) (run : RunState) (asked : Command) (place : ℕ) (act : LinkAct (List ℕ)) (on : NamedLink) (caller number : ℕ) (judged : Verdict)
+        → let acted = link_act nobody_sees 0 on.bench tt run.steps act in
+        slice_get run.objects.links place ≡ Some on → done_at run place (line_of asked) ≡ Some (under.Link act)
+        → acted.answer ≡ answer.Reached caller (reach.Ended (call_end.Took number judged))
+        → (effect_of found run asked).events ≡ end_event on.name (link_in acted.bench) caller (call_end.Took number judged) ∷ [] }
+    ensures of_core { (found : ImageAnswer) (run : RunState) (asked : Command) (place : ℕ) (act : LinkAct (List ℕ)) (on : NamedCoreState) (bench : BenchState) (caller number : ℕ) (judged : Verdict)
+        → let acted = act_on_core on.core bench run.steps act in
+        slice_get run.objects.cores place ≡ Some on → on.core.bench ≡ Some bench → done_on_core run place (line_of asked) ≡ Some (under.Link act)
+        → acted.answer ≡ answer.Reached caller (reach.Ended (call_end.Took number judged))
+        → (effect_of found run asked).events ≡ end_event on.name (link_in acted.bench) caller (call_end.Took number judged) ∷ [] }
+    ensures drive { (told : Told) (commands : List Command) (found : ImageAnswer) (asked : Command) (place count caller : ℕ) (on : NamedCoreState) → AreRunnable commands
+        → let run = (run_of told commands).last in
+        slice_get run.objects.cores place ≡ Some on → done_on_core run place (line_of asked) ≡ Some (under.Core (core.Drive count))
+        → lines_of caller (effect_of found run asked).events ≡ drive_lines run.objects.is_quiet on.name caller (core_takes on run.steps (under.Core (core.Drive count))) }
 {}

@@ -1,9 +1,8 @@
 use Rattle.std.proofs.Common.{◌≡◌, false, Option, None, Some, is_none, is_some, Err, refl, sym, ap, subst, ◌∙◌}
 use Rattle.rp_io.specs.Images.{ImageAnswer}
 use Rattle.rp_base.specs.declared.kinds.LifeState.{LifeState}
-use Rattle.proc_state.specs.Lives.{CoreLife, handover_to, is_offline, life_after_handover, line_of}
+use Rattle.proc_state.specs.Lives.{CoreLife, handover_to, is_offline, life_after_handover, line_of, recovery_fault}
 use Rattle.proc_state.specs.declared.answers.LifeFault.{LifeFault}
-use Rattle.crash_recover.specs.CoreRecoveries.{recovery_fault}
 use Rattle.crash_recover.specs.declared.core_faults.StartFault.TheVariants as start_fault
 use Rattle.crash_recover.proofs.RefusedLives.{refused_handover, refused_recovery}
 use Rattle.link_commands.specs.declared.acts.StartAct.{StartAct}

@@ -6,7 +6,7 @@ use Rattle.crash_recover.specs.declared.core_answers.Start.{Start}
 use Rattle.crash_recover.specs.declared.core_faults.StartFault.{StartFault}
 use Rattle.crash_recover.specs.Cores.{CoreOutcome}
 use Rattle.crash_recover.specs.CoreBoots.{as_unit, core_fault_of_start, in_short}
-use Rattle.crash_recover.specs.CoreRecoveries.{recovery_fault}
+use Rattle.proc_state.specs.Lives.{recovery_fault}
 use Rattle.crash_recover.proofs.RefusedLives.{refused_recovery}
 use Rattle.crash_recover.proofs.cores.Core.recover.Goals as goal
 
