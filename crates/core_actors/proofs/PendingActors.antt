@@ -17,25 +17,25 @@ use Rattle.link_bench.specs.declared.benches.BenchFault.TheVariants as fault
 use Rattle.link_bench.specs.Benches.{BenchState, BenchWalk, advance_steps, advance_walk, begin_fault, begun_call_of, bench_walk, caller_fault, calling_fault, is_in_call, later_steps, link_in, on_rings, start_walk, wish_fault}
 use Rattle.core_actors.specs.ActorEnds.{calls_after_end, gives_of, sends_of, taken_number}
 use Rattle.core_actors.specs.ActorSteps.{first_or_take}
-use Rattle.core_actors.specs.PendingCalls.{AreFitLanes, AreGivable, IsNamedEnd, given_after, given_by, is_among}
+use Rattle.core_actors.specs.PendingCalls.{AreFitLanes, AreGivable, IsNamedEnd, give_numbers_after, give_numbers, is_among}
 use Rattle.core_actors.proofs.PendingSteps.{IsNext}
 
 -- ---- lists of calls
 
-pub given_both : (one other : List Wish) → given_by (one ++ other) ≡ given_by one ++ given_by other
-given_both [] other = refl
-given_both (wish.Send message ∷ later) other = given_both later other
-given_both (wish.Take ∷ later) other = given_both later other
-given_both (wish.Give number ∷ later) other = ap (λ (numbers : List ℕ). number ∷ numbers) (given_both later other)
-given_both (wish.Bind address ∷ later) other = given_both later other
-given_both (wish.Unbind address ∷ later) other = given_both later other
+pub give_numbers_both : (one other : List Wish) → give_numbers (one ++ other) ≡ give_numbers one ++ give_numbers other
+give_numbers_both [] other = refl
+give_numbers_both (wish.Send message ∷ later) other = give_numbers_both later other
+give_numbers_both (wish.Take ∷ later) other = give_numbers_both later other
+give_numbers_both (wish.Give number ∷ later) other = ap (λ (numbers : List ℕ). number ∷ numbers) (give_numbers_both later other)
+give_numbers_both (wish.Bind address ∷ later) other = give_numbers_both later other
+give_numbers_both (wish.Unbind address ∷ later) other = give_numbers_both later other
 
 pub none_behind : (numbers : List ℕ) → numbers ++ [] ≡ numbers
 none_behind [] = refl
 none_behind (number ∷ later) = ap (λ (numbers : List ℕ). number ∷ numbers) (none_behind later)
 
 module _ (held : List Holding) (caller : ℕ) where
-  givable_drop : (calls : List Wish) → AreGivable held caller (given_by calls) → AreGivable held caller (given_by (drop 1 calls))
+  givable_drop : (calls : List Wish) → AreGivable held caller (give_numbers calls) → AreGivable held caller (give_numbers (drop 1 calls))
   givable_drop [] are = tt
   givable_drop (wish.Send message ∷ later) are = are
   givable_drop (wish.Take ∷ later) are = are
@@ -43,11 +43,11 @@ module _ (held : List Holding) (caller : ℕ) where
   givable_drop (wish.Bind address ∷ later) are = are
   givable_drop (wish.Unbind address ∷ later) are = are
 
-  among_drop : (calls : List Wish) (number : ℕ) → is_among (given_by calls) number ≡ false → is_among (given_by (drop 1 calls)) number ≡ false
+  among_drop : (calls : List Wish) (number : ℕ) → is_among (give_numbers calls) number ≡ false → is_among (give_numbers (drop 1 calls)) number ≡ false
   among_drop [] number none = refl
   among_drop (wish.Send message ∷ later) number none = none
   among_drop (wish.Take ∷ later) number none = none
-  among_drop (wish.Give other ∷ later) number none = (or_parts (eqb other number) (is_among (given_by later) number) none).1
+  among_drop (wish.Give other ∷ later) number none = (or_parts (eqb other number) (is_among (give_numbers later) number) none).1
   among_drop (wish.Bind address ∷ later) number none = none
   among_drop (wish.Unbind address ∷ later) number none = none
 
@@ -70,7 +70,7 @@ module _ (held : List Holding) (caller : ℕ) where
 
   -- the wish that an actor begins with is one that it may have
   first_held : (bench : BenchState) (calls : List Wish) → ((number : ℕ) → IsTrue (holds held number caller) → is_holding (link_in bench) caller number ≡ true)
-      → AreGivable held caller (given_by calls) → wish_fault bench caller (first_or_take calls) ≡ None
+      → AreGivable held caller (give_numbers calls) → wish_fault bench caller (first_or_take calls) ≡ None
   first_held bench [] each are = refl
   first_held bench (wish.Send message ∷ later) each are = refl
   first_held bench (wish.Take ∷ later) each are = refl
@@ -78,19 +78,19 @@ module _ (held : List Holding) (caller : ℕ) where
   first_held bench (wish.Bind address ∷ later) each are = refl
   first_held bench (wish.Unbind address ∷ later) each are = refl
 
-  plain : (taking : Bool) (calls left : List Wish) → AreGivable held caller (given_by calls) → AreGivable held caller (given_by left)
-      → AreGivable held caller (given_by (cond taking calls left) ++ [])
-  plain true calls left are rest = subst (AreGivable held caller) (sym (none_behind (given_by calls))) are
-  plain false calls left are rest = subst (AreGivable held caller) (sym (none_behind (given_by left))) rest
+  plain : (taking : Bool) (calls left : List Wish) → AreGivable held caller (give_numbers calls) → AreGivable held caller (give_numbers left)
+      → AreGivable held caller (give_numbers (cond taking calls left) ++ [])
+  plain true calls left are rest = subst (AreGivable held caller) (sym (none_behind (give_numbers calls))) are
+  plain false calls left are rest = subst (AreGivable held caller) (sym (none_behind (give_numbers left))) rest
 
   -- what a host actor's calls give back once its call has ended
-  pub host_calls_left : (taking : Bool) (calls : List Wish) (ended : CallEnd) → AreGivable held caller (given_after ended calls) → IsNamedEnd ended (not taking)
-      → AreGivable held caller (given_by (cond taking calls (calls_after_end ended calls)) ++ given_by (gives_of (taken_number ended)))
-  host_calls_left true calls (end.Took number judged) are named = givable_behind (given_by calls) number are.0 are.1 are.2
+  pub host_calls_left : (taking : Bool) (calls : List Wish) (ended : CallEnd) → AreGivable held caller (give_numbers_after ended calls) → IsNamedEnd ended (not taking)
+      → AreGivable held caller (give_numbers (cond taking calls (calls_after_end ended calls)) ++ give_numbers (gives_of (taken_number ended)))
+  host_calls_left true calls (end.Took number judged) are named = givable_behind (give_numbers calls) number are.0 are.1 are.2
   host_calls_left false calls (end.Took number judged) are named =
-      givable_behind (given_by (drop 1 calls)) number are.0 (among_drop calls number are.1) (givable_drop calls are.2)
+      givable_behind (give_numbers (drop 1 calls)) number are.0 (among_drop calls number are.1) (givable_drop calls are.2)
   host_calls_left true calls (end.Gave number) are named = absurd (false≢true named)
-  host_calls_left false calls (end.Gave number) are named = subst (AreGivable held caller) (sym (none_behind (given_by (drop 1 calls)))) are
+  host_calls_left false calls (end.Gave number) are named = subst (AreGivable held caller) (sym (none_behind (give_numbers (drop 1 calls)))) are
   host_calls_left taking calls (end.Sent number) are named = plain taking calls (drop 1 calls) are (givable_drop calls are)
   host_calls_left taking calls (end.Bound endpoint) are named = plain taking calls (drop 1 calls) are (givable_drop calls are)
   host_calls_left taking calls (end.Unbound endpoint) are named = plain taking calls (drop 1 calls) are (givable_drop calls are)
@@ -102,7 +102,7 @@ module _ (held : List Holding) (caller : ℕ) where
   host_calls_left taking calls (end.Refused why) are named = plain taking calls (drop 1 calls) are (givable_drop calls are)
 
   -- and what the worker's give back, whose gives come first
-  pub worker_calls_left : (calls : List Wish) (ended : CallEnd) → AreGivable held caller (given_after ended calls) → AreGivable held caller (given_by (gives_of (taken_number ended) ++ calls_after_end ended calls))
+  pub worker_calls_left : (calls : List Wish) (ended : CallEnd) → AreGivable held caller (give_numbers_after ended calls) → AreGivable held caller (give_numbers (gives_of (taken_number ended) ++ calls_after_end ended calls))
   worker_calls_left calls (end.Took number judged) are = (are.0, among_drop calls number are.1, givable_drop calls are.2)
   worker_calls_left calls (end.Gave number) are = are
   worker_calls_left calls (end.Sent number) are = givable_drop calls are
@@ -115,7 +115,7 @@ module _ (held : List Holding) (caller : ℕ) where
   worker_calls_left calls (end.Empty accepted) are = are
   worker_calls_left calls (end.Refused why) are = givable_drop calls are
 
-pub sends_nothing : (message : Option (List ℕ)) → given_by (sends_of message) ≡ []
+pub sends_nothing : (message : Option (List ℕ)) → give_numbers (sends_of message) ≡ []
 sends_nothing None = refl
 sends_nothing (Some message) = refl
 
@@ -137,7 +137,7 @@ module _ (bench : BenchState) (caller : ℕ) (end : End) (user : end_of (link_in
       record { may = subst (λ (found : Option End). MayEndStep (link_in bench) found caller None) (sym user) on_lanes }
 
   pub given_now : (is_first : Bool) (calls : List Wish) → is_in_call bench caller ≡ false → AreFitLanes (lanes_of (link_in bench) end) caller is_first calls
-      → AreGivable (lanes_of (link_in bench) end).incoming.lane.held caller (given_by calls)
+      → AreGivable (lanes_of (link_in bench) end).incoming.lane.held caller (give_numbers calls)
   given_now is_first calls none are = are.receives.other (or_parts (has_call (lanes_of (link_in bench) end).outgoing.sender caller) _ (silent none)).1
 
   -- the next call may begin

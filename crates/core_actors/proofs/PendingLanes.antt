@@ -29,7 +29,7 @@ use Rattle.lane_model.specs.Soundness.{AreHandedOnce, IsSoundLane}
 use Rattle.lane_model.proofs.SoundLanes.{turn_step_has}
 use Rattle.lane_model.proofs.Steps.{no_other, receive_on, receiver_own, same, sender_own, turn_step_of}
 use Rattle.channel_bus.specs.Sides.{EndState, side_meaning}
-use Rattle.core_actors.specs.PendingCalls.{AreGivable, IsFitLane, IsNamed, IsNamedEnd, IsOwnTurn, IsSendsEnd, IsSendsTurn, given_after, given_by, is_among}
+use Rattle.core_actors.specs.PendingCalls.{AreGivable, IsFitLane, IsNamed, IsNamedEnd, IsOwnTurn, IsSendsEnd, IsSendsTurn, give_numbers_after, give_numbers, is_among}
 
 -- ---- what is held
 
@@ -109,7 +109,7 @@ givable_without held gone caller (number ∷ later) none are =
 
 -- what a step of an actor's call leaves of its lane: the call goes on, or it has ended so
 pub record HasEnded (ended : CallEnd) (state : LaneState EndState) (caller : ℕ) (is_first : Bool) (calls : List Wish) : Type 0 where
-  pub given : AreGivable state.lane.held caller (given_after ended calls)
+  pub given : AreGivable state.lane.held caller (give_numbers_after ended calls)
   pub named : IsNamedEnd ended is_first
   pub left : has_call state.receiver caller ≡ false
 
@@ -129,7 +129,7 @@ module _ (state : LaneState EndState) (caller : ℕ) (is_first : Bool) (calls : 
 
   -- an end that gives back nothing, and hands over nothing
   record IsPlain (ended : CallEnd) : Type 0 where
-    pub given : given_after ended calls ≡ given_by calls
+    pub given : give_numbers_after ended calls ≡ give_numbers calls
     pub named : IsNamedEnd ended is_first
 
   bind_plain : (answer : Result Endpoint BindFault) → IsPlain (desk_end end.Bound answer)
@@ -140,7 +140,7 @@ module _ (state : LaneState EndState) (caller : ℕ) (is_first : Bool) (calls : 
   unbind_plain (Ok endpoint) = record { given = refl; named = tt }
   unbind_plain (Err fault) = record { given = refl; named = tt }
 
-  judged : (era : Era) (r : Receiving) (next : EndState) (ended : CallEnd) → IsPlain ended → AreGivable state.lane.held caller (given_by calls)
+  judged : (era : Era) (r : Receiving) (next : EndState) (ended : CallEnd) → IsPlain ended → AreGivable state.lane.held caller (give_numbers calls)
       → IsFitLane (desk_step era state caller r next ended).state caller is_first calls
   judged era r next ended plain are =
       cond_both (is_live_in era r.follows) (record state { receiver = turn.Leaving caller ended; desk = next }) (record state { receiver = turn.Leaving caller (end.Dead era) })
@@ -148,20 +148,20 @@ module _ (state : LaneState EndState) (caller : ℕ) (is_first : Bool) (calls : 
       (λ _. record { own = λ _. (subst (AreGivable state.lane.held caller) (sym plain.given) are, plain.named); other = λ no. absurd (false≢true (sym no ∙ same caller)) })
       (λ _. record { own = λ _. (are, tt); other = λ no. absurd (false≢true (sym no ∙ same caller)) })
 
-  handed : IsSoundLane state → AreGivable state.lane.held caller (given_by calls) → IsFitLane (after_handing side_meaning state caller) caller is_first calls
+  handed : IsSoundLane state → AreGivable state.lane.held caller (give_numbers calls) → IsFitLane (after_handing side_meaning state caller) caller is_first calls
   handed sound are = record {
     own = λ _. (
       (
         held_now state.lane.held (length state.lane.takers) caller,
-        fresh (length state.lane.takers) caller state.lane.held (given_by calls) sound.holdings are,
-        givable_more state.lane.held _ caller (given_by calls) (λ number has. held_still state.lane.held _ number caller has) are,
+        fresh (length state.lane.takers) caller state.lane.held (give_numbers calls) sound.holdings are,
+        givable_more state.lane.held _ caller (give_numbers calls) (λ number has. held_still state.lane.held _ number caller has) are,
       ),
       tt,
     );
     other = λ no. absurd (false≢true (sym no ∙ same caller));
   }
 
-  work_follows : (era : Era) (r : Receiving) (now : Work) → IsSoundLane state → AreGivable state.lane.held caller (given_by calls) → IsNamed now is_first calls
+  work_follows : (era : Era) (r : Receiving) (now : Work) → IsSoundLane state → AreGivable state.lane.held caller (give_numbers calls) → IsNamed now is_first calls
       → Follows (receive_step side_meaning era state caller r now).outcome (receive_step side_meaning era state caller r now).state caller is_first calls
   work_follows era r (work.Take take_stage.Turn) sound are named =
       either (is_live_in era r.follows) (turn.Taken caller (record r { work = work.Take take_stage.Era })) (turn.Leaving caller (end.Dead era)) (same caller) (same caller) (are, tt) (are, tt)
@@ -176,7 +176,7 @@ module _ (state : LaneState EndState) (caller : ℕ) (is_first : Bool) (calls : 
   work_follows era r (work.Give number give_stage.Entry) sound are named =
       let all = subst (AreGivable state.lane.held caller) (sym named.1) are in
       record {
-        own = λ _. (givable_without state.lane.held number caller (given_by (drop 1 calls)) all.1 all.2, named.0);
+        own = λ _. (givable_without state.lane.held number caller (give_numbers (drop 1 calls)) all.1 all.2, named.0);
         other = λ no. absurd (false≢true (sym no ∙ same caller));
       }
   work_follows era r (work.Bind address) sound are named = judged era r _ _ (bind_plain (side_meaning.bind_answer state.desk address (length state.lane.takers))) are
@@ -257,8 +257,8 @@ pub record KeepsOwn (caller : ℕ) (before after : LaneState EndState) : Type 0 
 own_more : (now : Turn Receiving) (before after : List Holding) (caller : ℕ) (is_first : Bool) (calls : List Wish)
     → ((number : ℕ) → IsTrue (holds before number caller) → IsTrue (holds after number caller)) → IsOwnTurn now before caller is_first calls → IsOwnTurn now after caller is_first calls
 own_more turn.Free before after caller is_first calls each is = tt
-own_more (turn.Taken other call) before after caller is_first calls each is = (givable_more before after caller (given_by calls) each is.0, is.1)
-own_more (turn.Leaving other ended) before after caller is_first calls each is = (givable_more before after caller (given_after ended calls) each is.0, is.1)
+own_more (turn.Taken other call) before after caller is_first calls each is = (givable_more before after caller (give_numbers calls) each is.0, is.1)
+own_more (turn.Leaving other ended) before after caller is_first calls each is = (givable_more before after caller (give_numbers_after ended calls) each is.0, is.1)
 own_more turn.Manager before after caller is_first calls each is = tt
 
 pub fit_kept : (before after : LaneState EndState) (caller : ℕ) (is_first : Bool) (calls : List Wish) → KeepsOwn caller before after → IsFitLane before caller is_first calls
@@ -268,7 +268,7 @@ fit_kept before after caller is_first calls keeps fit = record {
       let had = sym keeps.has ∙ has in
       subst (λ (now : Turn Receiving). IsOwnTurn now after.lane.held caller is_first calls) (sym (keeps.turn_stays had))
       (own_more before.receiver before.lane.held after.lane.held caller is_first calls keeps.held (fit.own had));
-  other = λ none. givable_more before.lane.held after.lane.held caller (given_by calls) keeps.held (fit.other (sym keeps.has ∙ none));
+  other = λ none. givable_more before.lane.held after.lane.held caller (give_numbers calls) keeps.held (fit.other (sym keeps.has ∙ none));
 }
 
 pub keeps_same : (caller : ℕ) (state : LaneState EndState) → KeepsOwn caller state state

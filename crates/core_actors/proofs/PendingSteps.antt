@@ -31,7 +31,7 @@ use Rattle.link_bench.specs.Benches.{Walk, LinkRings, call_steps, later_steps, l
 use Rattle.link_bench.specs.BenchHolds.{is_host}
 use Rattle.link_bench.proofs.KeptWalks.{call_keeps, later_keeps, next_may}
 use Rattle.link_bench.proofs.Lists.{call_lists, later_lists}
-use Rattle.core_actors.specs.PendingCalls.{AreFitLanes, AreGivable, IsFitLane, IsNamed, IsSendsEnd, IsSendsTurn, given_by}
+use Rattle.core_actors.specs.PendingCalls.{AreFitLanes, AreGivable, IsFitLane, IsNamed, IsSendsEnd, IsSendsTurn, give_numbers}
 use Rattle.core_actors.proofs.PendingLanes.{Follows, HasEnded, KeepsOwn, SendsFollow, begin_keeps, fit_kept, keeps_same, receive_follows, receiver_keeps, sender_keeps, sender_turn, sends_follow, take_keeps, taken_sends}
 
 apart : Some side.Host ≡ Some side.Remote → ⊥
@@ -127,13 +127,13 @@ IsNext (wish.Unbind address) is_first calls = Unit {0}
 module _ (caller : ℕ) (is_first : Bool) (calls : List Wish) where
   -- the first step of a send
   send_begun : (lanes after : Lanes (LaneState EndState)) (found : Option ℕ) → IsSendsTurn after.outgoing.sender → has_call after.incoming.receiver caller ≡ false
-      → AreGivable after.incoming.lane.held caller (given_by calls) → LanesFollow (begun_outcome found) after caller is_first calls
+      → AreGivable after.incoming.lane.held caller (give_numbers calls) → LanesFollow (begun_outcome found) after caller is_first calls
   send_begun lanes after None sends none are = record { sends = sends; receives = record { own = λ has. absurd (false≢true (sym none ∙ has)); other = λ _. are } }
   send_begun lanes after (Some other) sends none are = record { sends = sends; receives = record { given = are; named = tt; left = none } }
 
   -- the first step of another call
   turn_begun : (lanes : Lanes (LaneState EndState)) (now : Turn Receiving) (call : Receiving) → IsSendsTurn lanes.outgoing.sender → has_call now caller ≡ false
-      → AreGivable lanes.incoming.lane.held caller (given_by calls) → IsNamed call.work is_first calls
+      → AreGivable lanes.incoming.lane.held caller (give_numbers calls) → IsNamed call.work is_first calls
       → LanesFollow (begun_outcome (holder now)) (record lanes { incoming = record lanes.incoming { receiver = taken_by now caller call } }) caller is_first calls
   turn_begun lanes turn.Free call sends none are named =
       record { sends = sends; receives = record { own = λ _. (are, named); other = λ no. absurd (false≢true (sym no ∙ same caller)) } }
@@ -142,7 +142,7 @@ module _ (caller : ℕ) (is_first : Bool) (calls : List Wish) where
   turn_begun lanes turn.Manager call sends none are named = record { sends = sends; receives = record { given = are; named = tt; left = none } }
 
   first_follows : (era : Era) (lanes : Lanes (LaneState EndState)) (follows : ℕ) (wanted : Wish) → is_in_call lanes caller ≡ false → IsNext wanted is_first calls
-      → IsSendsTurn lanes.outgoing.sender → AreGivable lanes.incoming.lane.held caller (given_by calls)
+      → IsSendsTurn lanes.outgoing.sender → AreGivable lanes.incoming.lane.held caller (give_numbers calls)
       → let step = lanes_step (list_form side_meaning) side_meaning era lanes caller follows (Some wanted) in LanesFollow step.outcome step.state caller is_first calls
   first_follows era lanes follows (wish.Send message) none next sends are =
       send_begun lanes _ (holder lanes.outgoing.sender) (taken_sends lanes.outgoing.sender caller _ sends) (or_parts (has_call lanes.outgoing.sender caller) _ none).1 are
@@ -155,7 +155,7 @@ module _ (caller : ℕ) (is_first : Bool) (calls : List Wish) where
   first_follows era lanes follows (wish.Unbind address) none next sends are =
       turn_begun lanes lanes.incoming.receiver _ sends (or_parts (has_call lanes.outgoing.sender caller) _ none).1 are tt
 
-  send_given : (state : LaneState EndState) (ended : CallEnd) → IsSendsEnd ended → has_call state.receiver caller ≡ false → AreGivable state.lane.held caller (given_by calls)
+  send_given : (state : LaneState EndState) (ended : CallEnd) → IsSendsEnd ended → has_call state.receiver caller ≡ false → AreGivable state.lane.held caller (give_numbers calls)
       → HasEnded ended state caller is_first calls
   send_given state (end.Sent number) is none are = record { given = are; named = tt; left = none }
   send_given state (end.Took number judged) is none are = absurd is
@@ -196,7 +196,7 @@ module _ (caller : ℕ) (is_first : Bool) (calls : List Wish) where
 
   -- the step of a call of the actor on the link: its first, or a later one
   first_at : (link : LinkState EndState) (end : End) (found : Option End) (follows : ℕ) (wanted : Wish) → found ≡ Some end → MayEndStep link found caller (Some wanted) → IsNext wanted is_first calls
-      → IsSendsTurn (lanes_of link end).outgoing.sender → AreGivable (lanes_of link end).incoming.lane.held caller (given_by calls)
+      → IsSendsTurn (lanes_of link end).outgoing.sender → AreGivable (lanes_of link end).incoming.lane.held caller (give_numbers calls)
       → let step = on_lanes link found (λ lanes. lanes_step (list_form side_meaning) side_meaning link.era lanes caller follows (Some wanted)) in
       LanesFollow step.outcome (lanes_of step.state end) caller is_first calls
   first_at link side.Host (Some side.Host) follows wanted is may next sends are = relaned _ _ (first_follows link.era (lanes_of link side.Host) follows wanted may.0 next sends are)
@@ -261,7 +261,7 @@ module _ (caller : ℕ) (end : End) (is_first : Bool) (calls : List Wish) (rings
       (later_at caller is_first calls (lists_of rings) end (end_of rings.callers caller) user sound may.may are))
 
   pub own_call : (follows : ℕ) (wanted : Wish) → MayStep (lists_of rings) caller (Some wanted) → IsNext wanted is_first calls
-      → IsSendsTurn (lanes_of (lists_of rings) end).outgoing.sender → AreGivable (lanes_of (lists_of rings) end).incoming.lane.held caller (given_by calls)
+      → IsSendsTurn (lanes_of (lists_of rings) end).outgoing.sender → AreGivable (lanes_of (lists_of rings) end).incoming.lane.held caller (give_numbers calls)
       → let walk = call_steps on_rings 0 0 rings caller follows wanted in ReachFollows walk.reach (lanes_of (lists_of walk.link) end) caller is_first calls
   own_call follows wanted may next sends are =
       let step = caller_step side_meaning (lists_of rings) caller follows (Some wanted) in

@@ -14,8 +14,8 @@ use Rattle.core_actors.specs.declared.actors.Actor.{Actor}
 use Rattle.core_actors.specs.Actors.{ActorsState}
 use Rattle.core_actors.specs.ActorEnds.{calls_after_end, end_answer, gives_of, message_of, sends_of, taken_number}
 use Rattle.core_actors.specs.ActorSteps.{first_or_take, host_after_step, host_at_step_as, link_step, worker_after_step}
-use Rattle.core_actors.specs.PendingCalls.{AreFitLanes, AreGivable, AreOwnUsed, AreReady, HasNoneBegun, IsReadyBench, given_by}
-use Rattle.core_actors.proofs.PendingActors.{begins, calling, given_both, given_now, host_calls_left, linked, next_of_host, next_of_worker, none_behind, sends_nothing, worker_calls_left}
+use Rattle.core_actors.specs.PendingCalls.{AreFitLanes, AreGivable, AreOwnUsed, AreReady, HasNoneBegun, IsReadyBench, give_numbers}
+use Rattle.core_actors.proofs.PendingActors.{begins, calling, give_numbers_both, given_now, host_calls_left, linked, next_of_host, next_of_worker, none_behind, sends_nothing, worker_calls_left}
 use Rattle.core_actors.proofs.PendingSteps.{ReachFollows, other_call, other_later, own_call, own_later}
 
 -- ---- a step on the link
@@ -92,8 +92,8 @@ host_left (reach.Ended ended) actors bench follows =
     let first : List Wish = cond actors.is_taking actors.host_calls (calls_after_end ended actors.host_calls) in
     let back = gives_of (taken_number ended) in
     let sent = end_answer actors.drivers (message_of bench 0 ended) ended in
-    let all : given_by ((first ++ back) ++ sends_of sent) ≡ given_by first ++ given_by back =
-    given_both (first ++ back) (sends_of sent) ∙ ap (λ (numbers : List ℕ). given_by (first ++ back) ++ numbers) (sends_nothing sent) ∙ none_behind (given_by (first ++ back)) ∙ given_both first back in
+    let all : give_numbers ((first ++ back) ++ sends_of sent) ≡ give_numbers first ++ give_numbers back =
+    give_numbers_both (first ++ back) (sends_of sent) ∙ ap (λ (numbers : List ℕ). give_numbers (first ++ back) ++ numbers) (sends_nothing sent) ∙ none_behind (give_numbers (first ++ back)) ∙ give_numbers_both first back in
     record {
       sends = follows.sends;
       receives = record {

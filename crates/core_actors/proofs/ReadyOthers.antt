@@ -42,8 +42,8 @@ use Rattle.link_bench.proofs.Lists.{reclaim_lists}
 use Rattle.core_actors.specs.Actors.{ActorsState}
 use Rattle.core_actors.specs.ActorEnds.{actors_at_end, end_answer, sends_of}
 use Rattle.core_actors.specs.ActorSteps.{actors_after_record, wishes_of_work}
-use Rattle.core_actors.specs.PendingCalls.{AreFitLanes, AreGivable, AreOwnUsed, HasNoneBegun, IsNamed, IsOwnTurn, IsReadyBench, IsSendsTurn, given_after, given_by}
-use Rattle.core_actors.proofs.PendingActors.{given_both, none_behind, sends_nothing, silent}
+use Rattle.core_actors.specs.PendingCalls.{AreFitLanes, AreGivable, AreOwnUsed, HasNoneBegun, IsNamed, IsOwnTurn, IsReadyBench, IsSendsTurn, give_numbers_after, give_numbers}
+use Rattle.core_actors.proofs.PendingActors.{give_numbers_both, none_behind, sends_nothing, silent}
 use Rattle.core_actors.proofs.PendingLanes.{KeepsOwn}
 use Rattle.core_actors.proofs.PendingSteps.{fit_lanes, other_call, other_later}
 
@@ -192,15 +192,15 @@ caller_ready actors bench end begun ready = (record { host = begun.host; worker 
 
 -- ---- what the drivers send
 
-sends_same : (calls : List Wish) (message : Option (List ℕ)) → given_by (calls ++ sends_of message) ≡ given_by calls
-sends_same calls message = given_both calls (sends_of message) ∙ ap (λ (numbers : List ℕ). given_by calls ++ numbers) (sends_nothing message) ∙ none_behind (given_by calls)
+sends_same : (calls : List Wish) (message : Option (List ℕ)) → give_numbers (calls ++ sends_of message) ≡ give_numbers calls
+sends_same calls message = give_numbers_both calls (sends_of message) ∙ ap (λ (numbers : List ℕ). give_numbers calls ++ numbers) (sends_nothing message) ∙ none_behind (give_numbers calls)
 
-sends_drop : (calls : List Wish) (message : Option (List ℕ)) → given_by (drop 1 (calls ++ sends_of message)) ≡ given_by (drop 1 calls)
+sends_drop : (calls : List Wish) (message : Option (List ℕ)) → give_numbers (drop 1 (calls ++ sends_of message)) ≡ give_numbers (drop 1 calls)
 sends_drop [] None = refl
 sends_drop [] (Some message) = refl
 sends_drop (first ∷ later) message = sends_same later message
 
-sends_after : (ended : CallEnd) (calls : List Wish) (message : Option (List ℕ)) → given_after ended (calls ++ sends_of message) ≡ given_after ended calls
+sends_after : (ended : CallEnd) (calls : List Wish) (message : Option (List ℕ)) → give_numbers_after ended (calls ++ sends_of message) ≡ give_numbers_after ended calls
 sends_after (end.Took number judged) calls message = ap (λ (numbers : List ℕ). number ∷ numbers) (sends_same calls message)
 sends_after (end.Gave number) calls message = sends_drop calls message
 sends_after (end.Sent number) calls message = sends_same calls message
@@ -246,7 +246,7 @@ seen_ready actors bench message ended (Some side.Host) ready = record {
 
 -- ---- a record of the worker
 
-record_gives : (memory : List ℕ) (map : Mapping) (source : ℕ) (op : Record) → given_by (wishes_of_work (work_of_record memory map source op)) ≡ []
+record_gives : (memory : List ℕ) (map : Mapping) (source : ℕ) (op : Record) → give_numbers (wishes_of_work (work_of_record memory map source op)) ≡ []
 record_gives memory map source record_kind.Halt = refl
 record_gives memory map source (record_kind.Announce a b c) = refl
 record_gives memory map source (record_kind.Bind a) = refl
@@ -257,25 +257,25 @@ record_gives memory map source (record_kind.Trace n a c) = refl
 record_gives memory map source (record_kind.Crash a) = refl
 record_gives memory map source (record_kind.Loop a b) = refl
 
-next_gives : (memory : List ℕ) (map : Mapping) (source : ℕ) (found : Result Record WorkerFault) → given_by (wishes_of_work (work_of_next memory map source found)) ≡ []
+next_gives : (memory : List ℕ) (map : Mapping) (source : ℕ) (found : Result Record WorkerFault) → give_numbers (wishes_of_work (work_of_next memory map source found)) ≡ []
 next_gives memory map source (Ok op) = record_gives memory map source op
 next_gives memory map source (Err fault) = refl
 
 -- no record gives a buffer back
-work_gives : (memory : List ℕ) (map : Mapping) (linked : Bool) (worker : WorkerState) → given_by (wishes_of_work (work_of memory map linked worker)) ≡ []
+work_gives : (memory : List ℕ) (map : Mapping) (linked : Bool) (worker : WorkerState) → give_numbers (wishes_of_work (work_of memory map linked worker)) ≡ []
 work_gives memory map linked worker =
-    cond_both worker.is_halted worked.Halted (work_of_next memory map worker.source (next_record memory map linked worker)) (λ (w : Worked). given_by (wishes_of_work w) ≡ [])
+    cond_both worker.is_halted worked.Halted (work_of_next memory map worker.source (next_record memory map linked worker)) (λ (w : Worked). give_numbers (wishes_of_work w) ≡ [])
     (λ _. refl) (λ _. next_gives memory map worker.source (next_record memory map linked worker))
 
 -- calls more, which give nothing back, of an actor that is in no call
-more_calls : (lanes : Lanes (LaneState EndState)) (caller : ℕ) (calls more : List Wish) → has_call lanes.incoming.receiver caller ≡ false → given_by more ≡ []
+more_calls : (lanes : Lanes (LaneState EndState)) (caller : ℕ) (calls more : List Wish) → has_call lanes.incoming.receiver caller ≡ false → give_numbers more ≡ []
     → AreFitLanes lanes caller true calls → AreFitLanes lanes caller true (calls ++ more)
 more_calls lanes caller calls more none nothing are = record {
   sends = are.sends;
   receives = record {
     own = λ has. absurd (false≢true (sym none ∙ has));
     other = λ _. subst (AreGivable lanes.incoming.lane.held caller)
-        (sym (given_both calls more ∙ ap (λ (numbers : List ℕ). given_by calls ++ numbers) nothing ∙ none_behind (given_by calls))) (are.receives.other none);
+        (sym (give_numbers_both calls more ∙ ap (λ (numbers : List ℕ). give_numbers calls ++ numbers) nothing ∙ none_behind (give_numbers calls))) (are.receives.other none);
   };
 }
 

@@ -22,13 +22,13 @@ use Rattle.core_actors.specs.Actors.{ActorsState}
 use Rattle.link_bench.specs.Benches.{BenchState, begun_call_of, link_in}
 
 -- the numbers of the messages whose buffers these calls give back
-abbrev pub given_by : List Wish → List ℕ
-given_by [] = []
-given_by (wish.Send message ∷ later) = given_by later
-given_by (wish.Take ∷ later) = given_by later
-given_by (wish.Give number ∷ later) = number ∷ given_by later
-given_by (wish.Bind address ∷ later) = given_by later
-given_by (wish.Unbind address ∷ later) = given_by later
+abbrev pub give_numbers : List Wish → List ℕ
+give_numbers [] = []
+give_numbers (wish.Send message ∷ later) = give_numbers later
+give_numbers (wish.Take ∷ later) = give_numbers later
+give_numbers (wish.Give number ∷ later) = number ∷ give_numbers later
+give_numbers (wish.Bind address ∷ later) = give_numbers later
+give_numbers (wish.Unbind address ∷ later) = give_numbers later
 
 -- whether a number is one of these
 abbrev pub is_among : List ℕ → ℕ → Bool
@@ -40,15 +40,15 @@ AreGivable held caller [] = Unit {0}
 AreGivable held caller (number ∷ later) = IsTrue (holds held number caller) × (is_among later number ≡ false) × AreGivable held caller later
 
 -- what is yet to be given back once a call has ended so: what it was handed too, and no more what it gave back
-abbrev pub given_after : CallEnd → List Wish → List ℕ
-given_after (end.Took number judged) calls = number ∷ given_by calls
-given_after (end.Gave number) calls = given_by (drop 1 calls)
-given_after ended calls = given_by calls
+abbrev pub give_numbers_after : CallEnd → List Wish → List ℕ
+give_numbers_after (end.Took number judged) calls = number ∷ give_numbers calls
+give_numbers_after (end.Gave number) calls = give_numbers (drop 1 calls)
+give_numbers_after ended calls = give_numbers calls
 
 -- a give under way is the first of these calls; the flag says that the call under way is one of them
 abbrev pub IsNamed : Work → Bool → List Wish → Type 0
 IsNamed (work.Take stage) is_first calls = Unit {0}
-IsNamed (work.Give number stage) is_first calls = (is_first ≡ true) × (number ∷ given_by (drop 1 calls) ≡ given_by calls)
+IsNamed (work.Give number stage) is_first calls = (is_first ≡ true) × (number ∷ give_numbers (drop 1 calls) ≡ give_numbers calls)
 IsNamed (work.Bind address) is_first calls = Unit {0}
 IsNamed (work.Unbind address) is_first calls = Unit {0}
 
@@ -60,14 +60,14 @@ IsNamedEnd ended is_first = Unit {0}
 -- the receiver's turn, where a call of the actor has it
 abbrev pub IsOwnTurn : Turn Receiving → List Holding → ℕ → Bool → List Wish → Type 0
 IsOwnTurn turn.Free held caller is_first calls = Unit {0}
-IsOwnTurn (turn.Taken other call) held caller is_first calls = AreGivable held caller (given_by calls) × IsNamed call.work is_first calls
-IsOwnTurn (turn.Leaving other ended) held caller is_first calls = AreGivable held caller (given_after ended calls) × IsNamedEnd ended is_first
+IsOwnTurn (turn.Taken other call) held caller is_first calls = AreGivable held caller (give_numbers calls) × IsNamed call.work is_first calls
+IsOwnTurn (turn.Leaving other ended) held caller is_first calls = AreGivable held caller (give_numbers_after ended calls) × IsNamedEnd ended is_first
 IsOwnTurn turn.Manager held caller is_first calls = Unit {0}
 
 -- the lane that an actor takes from: it holds what its calls give back
 pub record IsFitLane (state : LaneState EndState) (caller : ℕ) (is_first : Bool) (calls : List Wish) : Type 0 where
   pub own : has_call state.receiver caller ≡ true → IsOwnTurn state.receiver state.lane.held caller is_first calls
-  pub other : has_call state.receiver caller ≡ false → AreGivable state.lane.held caller (given_by calls)
+  pub other : has_call state.receiver caller ≡ false → AreGivable state.lane.held caller (give_numbers calls)
 
 -- a send ends with neither a handing nor a return
 abbrev pub IsSendsEnd : CallEnd → Type 0

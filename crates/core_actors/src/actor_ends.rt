@@ -7,7 +7,7 @@ ghost use Rattle.link_bench.specs.Benches.{HoldsReachTaken, HoldsTaken, link_in}
 ghost use Rattle.core_actors.specs.ActorEnds.{actors_after_drivers, actors_after_end, after_endpoint, after_verdict, endpoint_answer, host_after_call, is_tried_again, message_of, taken_number, verdict_answer, worker_after_call};
 ghost use Rattle.core_actors.specs.ActorSteps.{host_after_step, host_at_step_as, worker_after_step};
 
-use crate::actors::{Actors, make_room};
+use crate::actors::{Actors, HOST_CALLER, WORKER_CALLER, make_room};
 use host_driver::Drivers;
 use lane_model::{CallEnd, Wish};
 use link_bench::{Bench, Reach, Watcher};
@@ -66,7 +66,7 @@ impl Actors {
         ensures { actors_view self.new ≡ actors_after_drivers (host_after_call (actors_view self.old) end.now) (message_of bench.now 0 end.now) end.now }
     {
         self.end_host_call(end);
-        self.see_end(message_of(bench, 0, end), end);
+        self.see_end(message_of(bench, HOST_CALLER, end), end);
     }
 
     /// Has the host actor see the end of its call.
@@ -131,7 +131,7 @@ impl Actors {
         ensures { actors_view self.new ≡ worker_after_step (actors_view self.old) bench.now reach.now }
     {
         if let Reach::Ended(end) = reach {
-            self.end_worker(message_of(bench, 1, end), end);
+            self.end_worker(message_of(bench, WORKER_CALLER, end), end);
         }
     }
 

@@ -13,7 +13,7 @@ ghost use Rattle.core_actors.specs.ActorEnds.{actors_after_end};
 ghost use Rattle.core_actors.specs.ActorSteps.{HoldsDrivenTaken, actors_after_record, drive_of_reach, drive_of_work, first_or_take, host_after_step, host_at_step, is_rest, link_step, with_next_after, worker_after_step};
 ghost use Rattle.core_actors.specs.PendingCalls.{AreOwnUsed, AreReady};
 
-use crate::actors::{Actor, Actors, make_room};
+use crate::actors::{Actor, Actors, HOST_CALLER, WORKER_CALLER, make_room};
 use crate::progress::Driven;
 use fw_load::Loaded;
 use lane_model::Wish;
@@ -21,12 +21,6 @@ use link_bench::{Bench, Reach, StepCount};
 use remote_core::Task;
 use rp_base::{CallerNo, NoMemory};
 use std::collections::VecDeque;
-
-/// The caller of the host actor.
-const HOST_CALLER: CallerNo = 0;
-
-/// The caller of the worker.
-const WORKER_CALLER: CallerNo = 1;
 
 /// A step of an actor: a call under way does one step, else the first of these calls, or a take
 /// where there is none, begins and does its first. `reach` says how far it came. The link was sound,
@@ -193,27 +187,5 @@ impl Actors {
             Task::Fault(fault) => *driven = Driven::Worker(fault, None),
         }
         Ok(())
-    }
-
-    /// One step of the call that a caller of a core's link is in, of which the drivers see the end.
-    ///
-    /// Errors: only for want of memory. The link and the actors are as they were then.
-    pub fn step_of(&mut self, bench: &mut Bench, caller: CallerNo) -> Result<Reach, NoMemory>
-        requires caller { caller < CALLERS_MOST }
-        requires may { step_fault bench.old caller ≡ None }
-        ensures bench { OnOk result (bench.new ≡ (advance_walk bench.old 0 0 caller).bench) }
-        ensures actors { OnOk result (let walk = advance_walk bench.old 0 0 caller in
-            actors_view self.new ≡ watcher_after actors_after_end walk.bench caller walk.reach (actors_view self.old)) }
-        ensures reach { IfOk result (λ reach. reach ≡ (advance_walk bench.old 0 0 caller).reach) }
-        ensures taken { IfOk result (HoldsReachTaken (link_in bench.new) caller) }
-        ensures same { OnErr result (bench.new ≡ bench.old) }
-        ensures unchanged { OnErr result (actors_view self.new ≡ actors_view self.old) }
-    {
-        make_room(&mut self.host_calls, 1)?;
-        let reach = bench.next_step(caller);
-        if let Reach::Ended(end) = &reach {
-            self.see_call(bench, caller, end);
-        }
-        Ok(reach)
     }
 }

@@ -8,11 +8,18 @@ ghost use Rattle.core_actors.specs.Actors.{actors_view, driver_names, fresh_acto
 use host_driver::{DriverFault, Drivers};
 use lane_model::Wish;
 use remote_core::Worker;
-use rp_base::{Da, DriverKind, Name, NoMemory};
+use rp_base::{CallerNo, Da, DriverKind, Name, NoMemory};
 use std::alloc::Global;
 use std::collections::VecDeque;
 
-/// Who makes calls on a core's link: the host's drivers, as caller 0, or the remote's worker, as 1.
+/// The caller of a core's link by which its drivers make calls.
+pub const HOST_CALLER: CallerNo = 0;
+
+/// The caller of a core's link by which its worker makes calls.
+pub const WORKER_CALLER: CallerNo = 1;
+
+/// Who makes calls on a core's link: the host's drivers, as [`HOST_CALLER`], or the remote's worker, as
+/// [`WORKER_CALLER`].
 #[derive(Clone, Copy)]
 pub enum Actor {
     Host,

@@ -2,7 +2,7 @@ ghost use Rattle.std.specs.Prelude.{◌≡◌, ◌<◌, not};
 ghost use Rattle.core_actors.specs.Actors.{actors_view};
 ghost use Rattle.core_actors.specs.ActorSteps.{begins_with_take, host_is_idle, host_waits, is_drained, is_empty, worker_is_idle, worker_waits};
 
-use crate::actors::Actors;
+use crate::actors::{Actors, HOST_CALLER, WORKER_CALLER};
 use lane_model::Wish;
 use link_bench::Bench;
 use std::collections::VecDeque;
@@ -14,7 +14,7 @@ impl Actors {
         ensures { result ≡ host_is_idle bench.now (actors_view self.now) }
     {
         match bench {
-            Some(bench) => !bench.is_caller_busy(0) && self.host_waits(bench),
+            Some(bench) => !bench.is_caller_busy(HOST_CALLER) && self.host_waits(bench),
             None => true,
         }
     }
@@ -34,7 +34,7 @@ impl Actors {
         ensures { result ≡ worker_is_idle bench.now (actors_view self.now) }
     {
         match bench {
-            Some(bench) => !bench.is_caller_busy(1) && self.worker_waits(bench),
+            Some(bench) => !bench.is_caller_busy(WORKER_CALLER) && self.worker_waits(bench),
             None => self.is_halted(),
         }
     }

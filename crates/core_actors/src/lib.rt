@@ -7,5 +7,5 @@ mod actors;
 mod idle_actors;
 mod progress;
 
-pub use actors::{Actor, Actors};
+pub use actors::{Actor, Actors, HOST_CALLER, WORKER_CALLER};
 pub use progress::Driven;

@@ -10,6 +10,8 @@ pub mod KeptParts
 pub mod CoreParts
 pub mod RefusedLives
 pub mod Restarts
+pub mod CoreActs
+pub mod FirstReports
 pub mod BootLives
 pub mod SameLives
 pub mod KeptLinks

@@ -24,7 +24,7 @@ use Rattle.link_bench.proofs.CrashWalks.{crash_walk, remote_walk}
 use Rattle.core_actors.specs.Actors.{ActorsState, driver_names}
 use Rattle.core_actors.specs.ActorEnds.{actors_after_end, message_of}
 use Rattle.core_actors.specs.ActorSteps.{actors_after_record, has_calls}
-use Rattle.core_actors.specs.PendingCalls.{AreGivable, AreReady, HasNoneBegun, IsReadyBench, given_by}
+use Rattle.core_actors.specs.PendingCalls.{AreGivable, AreReady, HasNoneBegun, IsReadyBench, give_numbers}
 use Rattle.core_actors.proofs.ReadyOthers.{advance_ready, begun_ready, reclaim_begun, reclaim_ready, record_bench, seen_ready}
 use Rattle.core_actors.proofs.ReadyParts.{act_stands, advance_none, begun_none, reclaim_none}
 use Rattle.crash_recover.specs.CoreBoots.{core_bench, started_core}
@@ -65,8 +65,8 @@ made_begun names book first rings = record { host = refl; worker = refl }
 made_ready : (actors : ActorsState) (names : List (List ℕ)) (book first : ℕ) (rings : RingPair) → actors.host_calls ≡ [] → actors.worker_calls ≡ [] → IsReadyBench actors (core_bench names book first rings)
 unfolding core_bench
 made_ready actors names book first rings none_host none_worker = record {
-  host = record { sends = tt; receives = record { own = λ _. tt; other = λ _. subst (λ (calls : List Wish). AreGivable [] 0 (given_by calls)) (sym none_host) tt } };
-  worker = record { sends = tt; receives = record { own = λ _. tt; other = λ _. subst (λ (calls : List Wish). AreGivable [] 1 (given_by calls)) (sym none_worker) tt } };
+  host = record { sends = tt; receives = record { own = λ _. tt; other = λ _. subst (λ (calls : List Wish). AreGivable [] 0 (give_numbers calls)) (sym none_host) tt } };
+  worker = record { sends = tt; receives = record { own = λ _. tt; other = λ _. subst (λ (calls : List Wish). AreGivable [] 1 (give_numbers calls)) (sym none_worker) tt } };
 }
 
 rings_begun : (names : List (List ℕ)) (book first : ℕ) (rings : Option RingPair) → IfSome (option_map (core_bench names book first) rings) HasNoneBegun
@@ -103,8 +103,8 @@ reopened_calls : (actors : ActorsState) (found : Option BenchState) → actors.h
     → IfSome (option_map (λ bench. after_reopen (bench_to_reopen bench)) found) (IsReadyBench actors)
 reopened_calls actors None none_host none_worker = tt
 reopened_calls actors (Some bench) none_host none_worker = record {
-  host = record { sends = tt; receives = record { own = λ _. tt; other = λ _. subst (λ (calls : List Wish). AreGivable [] 0 (given_by calls)) (sym none_host) tt } };
-  worker = record { sends = tt; receives = record { own = λ _. tt; other = λ _. subst (λ (calls : List Wish). AreGivable [] 1 (given_by calls)) (sym none_worker) tt } };
+  host = record { sends = tt; receives = record { own = λ _. tt; other = λ _. subst (λ (calls : List Wish). AreGivable [] 0 (give_numbers calls)) (sym none_host) tt } };
+  worker = record { sends = tt; receives = record { own = λ _. tt; other = λ _. subst (λ (calls : List Wish). AreGivable [] 1 (give_numbers calls)) (sym none_worker) tt } };
 }
 
 -- a link that is reopened, of actors without calls

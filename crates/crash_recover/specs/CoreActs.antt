@@ -1,7 +1,8 @@
 -- Acts on the link of a core: its own callers are the first two, and its drivers see how the calls of the host end (own).
-use Rattle.std.specs.Prelude.{◌≡◌, ℕ, List, Option, Some, None}
+use Rattle.std.specs.Prelude.{◌≡◌, ◌≤◌, ℕ, List, Option, Some, None}
 use Rattle.link_bench.specs.declared.acts.ActAnswer.{ActAnswer}
 use Rattle.link_bench.specs.declared.acts.LinkAct.{LinkAct}
+use Rattle.link_bench.specs.declared.acts.LinkAct.TheVariants as act
 use Rattle.link_bench.specs.Benches.{BenchState}
 use Rattle.link_bench.specs.Acts.{Acted, link_act}
 use Rattle.core_actors.specs.Actors.{ActorsState}
@@ -38,3 +39,14 @@ core_act_on core steps act (Some bench) =
 
 abbrev pub core_act : CoreState → ℕ → LinkAct (List ℕ) → CoreActed
 core_act core steps act = core_act_on core steps act core.bench
+
+-- a pump that ends early leaves what a pump of so many of its turns leaves of the core, or of fewer
+pub record IsCutPumpOnCore (core : CoreState) (steps sender receiver count : ℕ) (left : CoreState) : Type 0 where
+  pub done : ℕ
+  pub most : done ≤ count
+  pub is : left ≡ (core_act core steps (act.Pump sender receiver done)).core
+
+-- an act that ends early, for want of memory, leaves this of the core: a pump, some of its turns; any other act, the core as it was
+abbrev pub IsCutOnCore : CoreState → ℕ → LinkAct (List ℕ) → CoreState → Type 0
+IsCutOnCore core steps (act.Pump sender receiver count) left = IsCutPumpOnCore core steps sender receiver count left
+IsCutOnCore core steps other left = left ≡ core

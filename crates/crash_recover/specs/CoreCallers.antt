@@ -1,5 +1,5 @@
--- The calls of a core's link by callers other than its actors (own).
-use Rattle.std.specs.Prelude.{◌≡◌, ℕ, nat_lt, Bool, List, Option, Some, None, option_map, option_and_then, Result, Err, if◌then◌else◌}
+-- The calls of a core's link by callers other than its actors: each is an act on that link, or begins a call of any message (own).
+use Rattle.std.specs.Prelude.{◌≡◌, ℕ, nat_lt, List, Option, Some, None, option_map, option_and_then, if◌then◌else◌}
 use Rattle.rp_base.specs.Limits.{ring_capacity}
 use Rattle.rp_base.specs.declared.kinds.End.{End}
 use Rattle.name_service.specs.declared.channels.Channel.{Channel}
@@ -7,42 +7,26 @@ use Rattle.vring_layout.specs.declared.snapshots.Snapshot.{Snapshot}
 use Rattle.fw_load.specs.declared.rings.RingPair.{RingPair}
 use Rattle.lane_model.specs.declared.calls.Wish.{Wish}
 use Rattle.lane_model.specs.Lanes.{holder}
-use Rattle.lane_model.specs.Links.{end_of, free_number}
-use Rattle.lane_model.specs.Recoveries.{link_reclaim_refusal}
-use Rattle.link_bench.specs.declared.bench_crashes.Reclaim.{Reclaim}
+use Rattle.link_bench.specs.declared.acts.ActAnswer.{ActAnswer}
+use Rattle.link_bench.specs.declared.acts.ActAnswer.TheVariants as answer
 use Rattle.link_bench.specs.declared.benches.BenchFault.{BenchFault}
 use Rattle.link_bench.specs.declared.benches.BenchFault.TheVariants as fault
-use Rattle.link_bench.specs.declared.benches.Reach.{Reach}
-use Rattle.link_bench.specs.declared.benches.Reach.TheVariants as reach
 use Rattle.crash_recover.specs.declared.core_acts.TheConstants.{OWN_CALLERS}
 use Rattle.crash_recover.specs.declared.core_callers.StepFault.{StepFault}
 use Rattle.crash_recover.specs.declared.core_callers.StepFault.TheVariants as step
-use Rattle.link_bench.specs.Benches.{BenchState, BenchWalk, advance_walk, begin_fault, link_in, step_fault, with_begun, with_new_caller}
-use Rattle.link_bench.specs.Watchers.{watcher_after}
-use Rattle.link_bench.specs.BenchCrashes.{reclaim_answer, reclaim_leaves}
+use Rattle.link_bench.specs.declared.benches.Reach.{Reach}
+use Rattle.link_bench.specs.Benches.{BenchState, begin_fault, link_in, step_fault, with_begun}
 use Rattle.link_bench.specs.BenchRings.{bench_snapshot, snapshot_at, turn_holder}
 use Rattle.crash_recover.specs.Cores.{CoreState, loaded_rings}
-use Rattle.core_actors.specs.ActorEnds.{actors_after_end}
-
--- the callers 0 and 1 are those of the core's own actors
-abbrev pub is_own : ℕ → Bool
-is_own caller = nat_lt caller OWN_CALLERS
 
 -- a call on the link of a core is refused to the core's own callers as to one that isn't in use
 abbrev pub core_fault : ℕ → Option BenchFault → Option BenchFault
-core_fault caller why = if is_own caller then Some fault.NoCaller else why
+core_fault caller why = if nat_lt caller OWN_CALLERS then Some fault.NoCaller else why
 
--- ---- a new caller
-
--- the number of a new caller: the least that is not in use
-abbrev pub new_caller : CoreState → Option ℕ
-new_caller core = option_and_then (λ (bench : BenchState). free_number (link_in bench).callers) core.bench
-
--- the core with a new caller at an end of its link
-abbrev pub with_core_caller : CoreState → End → CoreState
-with_core_caller core end = record core {
-  bench = option_map (λ (bench : BenchState). with_new_caller bench end (free_number (link_in bench).callers)) core.bench;
-}
+-- what an act that makes a caller answers: its number, or that all are in use
+abbrev pub caller_answer : End → Option ℕ → ActAnswer
+caller_answer end None = answer.CallersFull
+caller_answer end (Some number) = answer.Caller number end
 
 -- ---- the beginning of a call
 
@@ -69,41 +53,11 @@ abbrev pub IsStepFault : Option BenchFault → StepFault → Type 0
 IsStepFault (Some other) why = why ≡ step.Bench other
 IsStepFault None why = why ≡ step.NoMemory
 
--- a core after a step of a caller, and how far the call came
-pub record CoreStep : Type 0 where
-  pub core : CoreState
-  pub reach : Reach
-
--- a step on the link of a core: where it ended the call, the drivers see the end
-abbrev pub walk_step : CoreState → ℕ → BenchWalk → CoreStep
-walk_step core caller walk = record {
-  core = record core { bench = Some walk.bench; actors = watcher_after actors_after_end walk.bench caller walk.reach core.actors };
-  reach = walk.reach;
-}
-
--- one step of the call that a caller is in
-abbrev pub core_step_on : CoreState → ℕ → Option BenchState → CoreStep
-core_step_on core caller None = record { core = core; reach = reach.Limit }
-core_step_on core caller (Some bench) = walk_step core caller (advance_walk bench 0 0 caller)
-
-abbrev pub core_step : CoreState → ℕ → CoreStep
-core_step core caller = core_step_on core caller core.bench
-
--- ---- a reclaim
-
--- how a reclaim of a caller ends
-abbrev pub core_reclaim_answer : ℕ → Option BenchState → Result Reclaim BenchFault
-core_reclaim_answer caller None = Err fault.NoCaller
-core_reclaim_answer caller (Some bench) =
-    if is_own caller then Err fault.NoCaller else reclaim_answer (end_of (link_in bench).callers caller) (link_reclaim_refusal (link_in bench) caller)
-
--- the link then
-abbrev pub bench_after_reclaim : ℕ → BenchState → BenchState
-bench_after_reclaim caller bench = if is_own caller then bench else reclaim_leaves bench caller (link_reclaim_refusal (link_in bench) caller)
-
--- the core then
-abbrev pub after_core_reclaim : CoreState → ℕ → CoreState
-after_core_reclaim core caller = record core { bench = option_map (bench_after_reclaim caller) core.bench }
+-- how far a call came, where an act answers that
+abbrev pub reach_of : Option ActAnswer → Option Reach
+reach_of (Some (answer.Reached caller reach)) = Some reach
+reach_of (Some other) = None
+reach_of None = None
 
 -- ---- what a core shows of its link
 

@@ -1,5 +1,5 @@
 -- What a crash report of a core answers and leaves (`rproc_report_crash` of Linux remoteproc_core.c; what becomes of the callers is own).
-use Rattle.std.specs.Prelude.{Bool, true, Option, Some, None, option_map, Result, Ok, Err, if◌then◌else◌}
+use Rattle.std.specs.Prelude.{ℕ, Bool, true, Option, Some, None, option_map, Result, Ok, Err, if◌then◌else◌}
 use Rattle.proc_state.specs.Lives.{CoreLife, life_after_crash}
 use Rattle.proc_state.specs.declared.answers.LifeFault.{LifeFault}
 use Rattle.proc_state.specs.declared.answers.Report.{Report}
@@ -13,6 +13,10 @@ use Rattle.crash_recover.specs.Cores.{CoreOutcome, CoreState}
 -- the core in this life once its link is closed and its remote callers are gone
 abbrev pub crashed_core : CoreLife → CoreState → CoreState
 crashed_core life core = record core { life = life; bench = option_map crashed_bench core.bench }
+
+-- which incarnation the link of a core is in, where it has one
+abbrev pub link_incarnation : Option BenchState → Option ℕ
+link_incarnation link = option_map (λ (bench : BenchState). (link_in bench).era.inc) link
 
 -- the first report: the link is closed, which is a step that may be taken or not
 abbrev pub first_report : Bool → CoreLife → CoreState → Option BenchState → CoreOutcome Crash LifeFault

@@ -1,6 +1,5 @@
 -- What a drive of a core does, step by step: whose turn it is, and what the step leaves of the core (own).
-use Rattle.std.specs.Prelude.{ℕ, Bool, true, ◌&&◌, ◌||◌, List, Option, Some, None, is_none, is_some, Result, Ok, Err, if◌then◌else◌}
-use Rattle.proc_state.specs.declared.answers.LifeFault.{LifeFault}
+use Rattle.std.specs.Prelude.{Bool, ◌&&◌, ◌||◌, List, Option, Some, None, is_none, is_some, if◌then◌else◌}
 use Rattle.memory_pool.specs.Regions.{memory_len}
 use Rattle.memory_pool.specs.declared.regions.Region.{Region}
 use Rattle.addr_translate.specs.Mapped.{mapped_blocks}
@@ -14,9 +13,7 @@ use Rattle.core_actors.specs.declared.progress.Driven.TheVariants as driven
 use Rattle.core_actors.specs.Actors.{ActorsState, other_actor}
 use Rattle.core_actors.specs.ActorSteps.{actors_after_record, drive_of_reach, drive_of_work, first_or_take, has_calls, host_after_step, host_at_step, host_is_idle, link_step, with_next_after, worker_after_step, worker_is_idle}
 use Rattle.crash_recover.specs.Cores.{CoreState, LoadState}
-use Rattle.crash_recover.specs.declared.core_answers.Crash.{Crash}
-use Rattle.crash_recover.specs.declared.core_answers.Crash.TheVariants as crash
-use Rattle.crash_recover.specs.CoreCrashes.{after_report, report_of}
+use Rattle.crash_recover.specs.CoreCrashes.{after_report, link_incarnation}
 
 -- ---- one step
 
@@ -59,20 +56,13 @@ core_with_report (driven.Ended caller end) core = core
 core_with_report (driven.Worker fault closed) core = after_report core
 core_with_report (driven.Crashed kind closed) core = after_report core
 
--- which incarnation of a core's link a crash report closed, if it closed one
-abbrev pub closed_by : Result Crash LifeFault → Option ℕ
-closed_by (Ok (crash.First closed)) = closed
-closed_by (Ok crash.Already) = None
-closed_by (Ok crash.Limit) = None
-closed_by (Err why) = None
-
--- the step with what the report closed
+-- the step with the incarnation that the report closed: the core was up, so its link was open
 abbrev pub driven_with_report : Driven → CoreState → Driven
 driven_with_report driven.Idle core = driven.Idle
 driven_with_report driven.Stepped core = driven.Stepped
 driven_with_report (driven.Ended caller end) core = driven.Ended caller end
-driven_with_report (driven.Worker fault closed) core = driven.Worker fault (closed_by (report_of true core).answer)
-driven_with_report (driven.Crashed kind closed) core = driven.Crashed kind (closed_by (report_of true core).answer)
+driven_with_report (driven.Worker fault closed) core = driven.Worker fault (link_incarnation core.bench)
+driven_with_report (driven.Crashed kind closed) core = driven.Crashed kind (link_incarnation core.bench)
 
 -- the core then
 abbrev pub after_record : CoreState → LoadState → Mapping → CoreState

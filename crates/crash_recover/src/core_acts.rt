@@ -1,7 +1,7 @@
-ghost use Rattle.std.specs.Prelude.{IfOk, IfSome};
+ghost use Rattle.std.specs.Prelude.{IfOk, IfSome, OnErr};
 ghost use Rattle.link_bench.specs.Acts.{HoldsAnswerTaken, IsFitAct, bare_act};
 ghost use Rattle.link_bench.specs.Benches.{link_in};
-ghost use Rattle.crash_recover.specs.CoreActs.{HasCoreActed, core_act};
+ghost use Rattle.crash_recover.specs.CoreActs.{HasCoreActed, IsCutOnCore, core_act};
 
 use crate::cores::Core;
 use link_bench::{ActAnswer, LinkAct, StepCount};
@@ -17,7 +17,7 @@ impl Core {
     /// There is no answer exactly where the core has no link.
     ///
     /// Errors: only for want of memory, which comes before a call, steps or a turn whose end the drivers
-    /// may see.
+    /// may see. The core is as it was then, or, of a pump, as so many of its turns leave it.
     pub fn act(
         &mut self,
         _alloc: Global,
@@ -27,6 +27,7 @@ impl Core {
         requires fit { IsFitAct (bare_act (λ bytes. bytes.now) act.now) }
         ensures acted { IfOk result (HasCoreActed (core_act self.old steps.old (bare_act (λ bytes. bytes.now) act.now)) self.new steps.new) }
         ensures taken { IfOk result (λ found. IfSome found (λ answer. IfSome self.new.bench (λ bench. HoldsAnswerTaken (link_in bench) answer))) }
+        ensures cut { OnErr result (IsCutOnCore self.old steps.old (bare_act (λ bytes. bytes.now) act.now) self.new) }
     {
         let Some(bench) = &mut self.bench else {
             return Ok(None);

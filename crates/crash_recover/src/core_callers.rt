@@ -1,12 +1,18 @@
-ghost use Rattle.std.specs.Prelude.{◌≡◌, true, None, Some, IfErr, IfOk, IfSome, OnErr, OnOk, is_some};
+ghost use Rattle.std.specs.Prelude.{◌≡◌, ◌<◌, nat_lt, true, None, Some, IfErr, IfNone, IfOk, IfSome, OnErr, OnOk, is_some};
+ghost use Rattle.rp_base.specs.declared.limits.TheConstants.{CALLERS_MOST};
+ghost use Rattle.link_bench.specs.Acts.{HoldsAnswerTaken, answer_of_reclaim};
 ghost use Rattle.link_bench.specs.Benches.{HoldsReachTaken, link_in};
 ghost use Rattle.link_bench.specs.BenchRings.{IsSnapshotFault};
-ghost use Rattle.crash_recover.specs.CoreCallers.{IsStepFault, after_core_reclaim, core_begin_fault, core_channels, core_receiver, core_reclaim_answer, core_snapshot, core_step, core_step_fault, core_turn_holder, is_own, new_caller, with_core_call, with_core_caller};
+ghost use Rattle.link_bench.specs.declared.acts.ActAnswer.TheVariants as answer;
+ghost use Rattle.link_bench.specs.declared.acts.LinkAct.TheVariants as act;
+ghost use Rattle.crash_recover.specs.CoreActs.{HasCoreActed, core_act};
+ghost use Rattle.crash_recover.specs.CoreCallers.{IsStepFault, caller_answer, core_begin_fault, core_channels, core_receiver, core_snapshot, core_step_fault, core_turn_holder, reach_of, with_core_call};
+ghost use Rattle.crash_recover.specs.declared.core_acts.TheConstants.{OWN_CALLERS};
 
 use crate::core_acts::OWN_CALLERS;
 use crate::cores::Core;
 use lane_model::Wish;
-use link_bench::{BenchFault, Reach, Reclaim};
+use link_bench::{ActAnswer, BenchFault, LinkAct, Reach, Reclaim, StepCount};
 use name_service::Channel;
 use rp_base::{CallerNo, End, NoMemory, ring_capacity};
 use std::alloc::Global;
@@ -32,14 +38,13 @@ impl From<NoMemory> for StepFault {
     }
 }
 
-/// The calls of the core's link for callers other than the core's own, which are 0 and 1. The core has
-/// a link: there is one exactly where [`Core::link`] gives it.
+/// The calls of the core's link for callers other than the core's own, which are 0 and 1: the acts of
+/// [`Core::act`], one by one. The core has a link: there is one exactly where [`Core::link`] gives it.
 impl Core {
     /// A new caller at this end of the core's link, as [`Bench::caller`] gives one.
     pub fn caller(&mut self, end: End) -> Option<CallerNo>
         requires { is_some self.old.bench ≡ true }
-        ensures number { result ≡ new_caller self.old }
-        ensures left { self.new ≡ with_core_caller self.old end }
+        ensures acted { HasCoreActed (core_act self.old 0 (act.Caller end)) self.new 0 (Some (caller_answer end result)) }
         ensures linked { is_some self.new.bench ≡ true }
     {
         let Some(bench) = &mut self.bench else {
@@ -74,26 +79,57 @@ impl Core {
     ///
     /// Errors: [`BenchFault::NoCaller`] for the core's own callers, else those of [`Bench::step`],
     /// then [`StepFault::NoMemory`], where a driver may send. The core is as it was then.
-    pub fn step(&mut self, _alloc: Global, caller: CallerNo) -> Result<Reach, StepFault>
+    pub fn step(&mut self, alloc: Global, caller: CallerNo) -> Result<Reach, StepFault>
         requires { is_some self.old.bench ≡ true }
         ensures may { OnOk result (core_step_fault self.old caller ≡ None) }
-        ensures left { OnOk result (self.new ≡ (core_step self.old caller).core) }
-        ensures reach { IfOk result (λ reach. reach ≡ (core_step self.old caller).reach) }
+        ensures left { OnOk result (self.new ≡ (core_act self.old 0 (act.Step caller 0)).core) }
+        ensures reach { IfOk result (λ reach. (core_act self.old 0 (act.Step caller 0)).answer ≡ Some (answer.Reached caller reach)) }
         ensures taken { IfOk result (λ reach. IfSome self.new.bench (λ bench. HoldsReachTaken (link_in bench) caller reach)) }
         ensures refused { IfErr result (IsStepFault (core_step_fault self.old caller)) }
         ensures unchanged { OnErr result (self.new ≡ self.old) }
         ensures linked { is_some self.new.bench ≡ true }
     {
-        if is_own(caller) {
-            return Err(StepFault::Bench(BenchFault::NoCaller));
+        if let Some(fault) = self.step_fault(caller) {
+            return Err(StepFault::Bench(fault));
         }
-        let Some(bench) = &mut self.bench else {
-            unreachable!()
-        };
-        bench.show_sound();
-        match bench.step_fault(caller) {
-            Some(fault) => Err(StepFault::Bench(fault)),
-            None => Ok(self.actors.step_of(bench, caller)?),
+        match self.act_step(alloc, caller)? {
+            Some(reach) => Ok(reach),
+            None => unreachable!(),
+        }
+    }
+
+    /// Does the act of one step for a caller, and answers how far its call came, where the act answers that.
+    ///
+    /// Errors: only for want of memory. The core is as it was then.
+    fn act_step(&mut self, alloc: Global, caller: CallerNo) -> Result<Option<Reach>, NoMemory>
+        requires { caller < CALLERS_MOST }
+        ensures left { OnOk result (self.new ≡ (core_act self.old 0 (act.Step caller 0)).core) }
+        ensures reach { IfOk result (λ found. found ≡ reach_of (core_act self.old 0 (act.Step caller 0)).answer) }
+        ensures taken { OnOk result (IfSome (core_act self.old 0 (act.Step caller 0)).answer (λ told. IfSome self.new.bench (λ bench. HoldsAnswerTaken (link_in bench) told))) }
+        ensures unchanged { OnErr result (self.new ≡ self.old) }
+    {
+        match self.act(
+            alloc,
+            &LinkAct::Step { caller, more: 0 },
+            &mut StepCount::new(),
+        )? {
+            Some(ActAnswer::Reached(_, reach)) => Ok(Some(reach)),
+            _ => Ok(None),
+        }
+    }
+
+    /// Why a caller of the core's link does no step: it is one of the core's own, or what it is in.
+    fn step_fault(&self, caller: CallerNo) -> Option<BenchFault>
+        requires { is_some self.now.bench ≡ true }
+        ensures fault { result ≡ core_step_fault self.now caller }
+        ensures within { IfNone result (caller < CALLERS_MOST) }
+    {
+        if is_own(caller) {
+            return Some(BenchFault::NoCaller);
+        }
+        match &self.bench {
+            Some(bench) => bench.step_fault(caller),
+            None => unreachable!(),
         }
     }
 
@@ -102,8 +138,7 @@ impl Core {
     /// Errors: [`BenchFault::NoCaller`] exactly where the caller isn't in use, or is the core's own.
     pub fn reclaim(&mut self, caller: CallerNo) -> Result<Reclaim, BenchFault>
         requires { is_some self.old.bench ≡ true }
-        ensures answer { result ≡ core_reclaim_answer caller self.old.bench }
-        ensures left { self.new ≡ after_core_reclaim self.old caller }
+        ensures acted { HasCoreActed (core_act self.old 0 (act.Reclaim caller)) self.new 0 (Some (answer_of_reclaim caller result)) }
         ensures linked { is_some self.new.bench ≡ true }
     {
         let Some(bench) = &mut self.bench else {
@@ -157,7 +192,7 @@ impl Core {
 
 /// Whether a caller is one of a core's own.
 fn is_own(caller: CallerNo) -> bool
-    ensures { result ≡ is_own caller }
+    ensures { result ≡ nat_lt caller OWN_CALLERS }
 {
     caller < OWN_CALLERS
 }

@@ -5,13 +5,11 @@ ghost use Rattle.proc_state.specs.Lives.{is_up};
 ghost use Rattle.core_actors.specs.declared.actors.Actor.TheVariants as actor;
 ghost use Rattle.core_actors.specs.ActorSteps.{HoldsDrivenTaken, has_calls, is_rest};
 ghost use Rattle.link_bench.specs.Benches.{link_in};
-ghost use Rattle.crash_recover.specs.CoreCrashes.{after_report, report_of};
-ghost use Rattle.crash_recover.specs.Drives.{closed_by, core_with_report, drive_step, driven_with_report, is_idle, is_idle_actor, record_run, record_step, step_or_rest, with_turn_after};
+ghost use Rattle.crash_recover.specs.Drives.{core_with_report, drive_step, driven_with_report, is_idle, is_idle_actor, record_run, record_step, step_or_rest, with_turn_after};
 
-use crate::core_answers::Crash;
 use crate::cores::Core;
-use core_actors::{Actor, Driven};
-use rp_base::{CrashKind, Inc, NoMemory};
+use core_actors::{Actor, Driven, HOST_CALLER, WORKER_CALLER};
+use rp_base::NoMemory;
 use std::alloc::Global;
 
 impl Core {
@@ -87,7 +85,7 @@ impl Core {
             *driven = Driven::Idle;
             return Ok(());
         };
-        let goes_on = bench.is_caller_busy(0);
+        let goes_on = bench.is_caller_busy(HOST_CALLER);
         if !goes_on && self.actors.host_waits(bench) {
             *driven = Driven::Idle;
             return Ok(());
@@ -116,7 +114,7 @@ impl Core {
             }
             return self.record_step(driven);
         };
-        let goes_on = bench.is_caller_busy(1);
+        let goes_on = bench.is_caller_busy(WORKER_CALLER);
         if !goes_on {
             if self.actors.worker_waits(bench) {
                 *driven = Driven::Idle;
@@ -132,6 +130,7 @@ impl Core {
     /// The worker of a core that is loaded, which makes no call, runs one record. A crash is reported.
     #[inline(always)]
     fn record_step(&mut self, driven: &mut Driven) -> Result<(), NoMemory>
+        requires up { is_up self.old.life.state ≡ true }
         requires loaded { is_some self.old.loaded ≡ true }
         requires silent { has_calls self.old.bench self.old.actors ≡ false }
         ensures works { OnOk result (is_rest driven.new ≡ false) }
@@ -152,6 +151,7 @@ impl Core {
         requires loaded { is_some self.old.loaded ≡ true }
         requires silent { has_calls self.old.bench self.old.actors ≡ false }
         ensures works { OnOk result (is_rest driven.new ≡ false) }
+        ensures life { self.new.life ≡ self.old.life }
         ensures driven { OnOk result (driven.new ≡ (record_run (with_turn_after actor.Worker self.old) self.old.loaded).driven) }
         ensures taken { OnOk result ((link : LinkState EndState) → HoldsDrivenTaken link driven.new) }
         ensures left { OnOk result (self.new ≡ (record_run (with_turn_after actor.Worker self.old) self.old.loaded).core) }
@@ -168,26 +168,16 @@ impl Core {
 
     /// Reports the crash that a step of the worker was, if it was one, and says what that closed.
     fn report_crash(&mut self, driven: &mut Driven)
+        requires up { is_up self.old.life.state ≡ true }
         ensures core { self.new ≡ core_with_report driven.old self.old }
         ensures driven { driven.new ≡ driven_with_report driven.old self.old }
         ensures works { is_rest driven.new ≡ is_rest driven.old }
         ensures taken { (link : LinkState EndState) → HoldsDrivenTaken link driven.old → HoldsDrivenTaken link driven.new }
     {
         match driven {
-            Driven::Worker(_, closed) => *closed = self.report_closing(CrashKind::Fatal),
-            Driven::Crashed(kind, closed) => *closed = self.report_closing(*kind),
+            Driven::Worker(_, closed) => *closed = self.crash_worker(),
+            Driven::Crashed(_, closed) => *closed = self.crash_worker(),
             Driven::Idle | Driven::Stepped | Driven::Ended(_, _) => {}
-        }
-    }
-
-    /// Reports a crash, and answers which incarnation of the link this closed, if it closed one.
-    fn report_closing(&mut self, kind: CrashKind) -> Option<Inc>
-        ensures closed { result ≡ closed_by (report_of true self.old).answer }
-        ensures left { self.new ≡ after_report self.old }
-    {
-        match self.report_within(kind, true) {
-            Ok(Crash::First(closed)) => closed,
-            Ok(Crash::Already | Crash::Limit) | Err(_) => None,
         }
     }
 }

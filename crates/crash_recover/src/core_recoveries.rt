@@ -162,7 +162,7 @@ impl Core {
         ensures last { OnErr result (reopen_fault self.old ≡ None) }
     {
         let mut life = self.life.copy();
-        let life_fault = life.recover().err();
+        let life_fault = life.start_again().err();
         if let Some(fault) = reopen_link(&mut self.bench, alloc, life_fault)? {
             return Ok(Err(fault));
         }

@@ -3,6 +3,7 @@ ghost use Rattle.rp_base.specs.declared.kinds.LifeState.TheVariants as state;
 ghost use Rattle.proc_state.specs.Lives.{AreIn, IsReachable, first_start, is_offline, is_up, life_after_boot, life_after_crash, life_after_detach, life_after_handover, life_after_recovery, life_after_shutdown, most, new_life, recovery_fault, with_user, without_user};
 ghost use Rattle.proc_state.specs.declared.answers.Left.TheVariants as left;
 ghost use Rattle.proc_state.specs.declared.answers.Power.TheVariants as power;
+ghost use Rattle.proc_state.specs.declared.answers.Report.TheVariants as report;
 
 use crate::answers::{Left, LifeFault, Power, Report};
 use rp_base::{Inc, LifeState};
@@ -219,11 +220,21 @@ impl Life {
         match self.state {
             LifeState::Offline | LifeState::Detached => Err(LifeFault::NotPowered),
             LifeState::Running | LifeState::Attached => {
-                self.state = LifeState::Crashed;
+                self.crash_first();
                 Ok(Report::First)
             }
             LifeState::Crashed => Ok(Report::Already),
         }
+    }
+
+    /// Reports the first crash of a core that is up. Its users stay.
+    pub fn crash_first(&mut self)
+        requires up { is_up self.old.state ≡ true }
+        ensures left { self.new ≡ record self.old { state = state.Crashed } }
+        ensures crashed { self.new ≡ (life_after_crash self.old).life }
+        ensures first { (life_after_crash self.old).answer ≡ Ok report.First }
+    {
+        self.state = LifeState::Crashed;
     }
 
     /// Why the core is not recovered, whatever incarnation is left: `NotCrashed` where it isn't crashed,
@@ -251,9 +262,22 @@ impl Life {
         ensures running { OnOk result (self.new.state ≡ state.Running) }
         ensures users { self.new.users ≡ self.old.users }
     {
-        if let Some(fault) = self.recovery_fault() {
-            return Err(fault);
+        match self.recovery_fault() {
+            Some(fault) => Err(fault),
+            None => self.start_again(),
         }
+    }
+
+    /// Starts a core that may be recovered again, in its next incarnation. Its users stay.
+    ///
+    /// Errors: `IncarnationsSpent` exactly at incarnation 2^32 - 1, which leaves the life as it was.
+    pub fn start_again(&mut self) -> Result<(), LifeFault>
+        requires may { recovery_fault self.old ≡ None }
+        ensures left { self.new ≡ (life_after_recovery self.old).life }
+        ensures answer { result ≡ (life_after_recovery self.old).answer }
+        ensures running { OnOk result (self.new.state ≡ state.Running) }
+        ensures users { self.new.users ≡ self.old.users }
+    {
         self.incarnation = next_incarnation(self.incarnation)?;
         self.state = LifeState::Running;
         Ok(())

@@ -1,10 +1,12 @@
 use Rattle.std.proofs.Common.{Some, sym, subst}
 use Rattle.link_bench.specs.Acts.{bare_act, link_act}
 use Rattle.link_bench.specs.Benches.{BenchState}
-use Rattle.link_bench.proofs.Cuts.{cut_kept}
+use Rattle.link_bench.proofs.Cuts.{cut_kept, on_err}
 use Rattle.core_actors.specs.ActorEnds.{actors_after_end}
 use Rattle.core_actors.specs.Actors.{ActorsState, actors_view}
 use Rattle.crash_recover.specs.KeptCores.{IsKeptBench, IsReadyLink}
+use Rattle.crash_recover.specs.contracts.cores.Core.{the_view}
+use Rattle.crash_recover.proofs.CoreActs.{cut_on_core}
 use Rattle.crash_recover.proofs.KeptBenches.{act_keeps}
 use Rattle.crash_recover.proofs.ReadyCores.{act_ready}
 use Rattle.crash_recover.proofs.SoundCores.{sound_linked}
@@ -39,3 +41,10 @@ invariant_of-self-2 c =
     (λ _ ready. subst (λ (seen : ActorsState). IsReadyLink inside.life.state seen (Some c.act.new.self)) (sym acted.watcher)
     (subst (λ (left : BenchState). IsReadyLink inside.life.state done.watcher (Some left)) (sym acted.bench)
     (act_ready inside.life.state actors bench c.args.steps.now asked c.requires.fit c.show_sound.ensures.fit ready)))
+
+pub returns-in_err-answer-clause-cut : goal.returns-in_err-answer-clause-cut
+returns-in_err-answer-clause-cut c =
+    let inside = c.self.inside in
+    let asked = bare_act (λ bytes. bytes.now) c.args.act.now in
+    on_err c.from_residual.result (rw (← c.self.view_is)
+    (cut_on_core (the_view inside) c.in-Some.bench c.args.steps.now asked c.act.new.self (actors_view c.act.new.watcher) c.in-Some.is c.in_err-answer.ensures.cut))

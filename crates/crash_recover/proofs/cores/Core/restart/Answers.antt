@@ -38,13 +38,13 @@ invariant_of-self-2 c =
     let fresh : ActorsState = fresh_actors (actors_view inside.actors) 0 in
     let may : recovery_fault inside.life ≡ None = subst (λ (core : CoreState). recovery_fault core.life ≡ None) (sym c.self.view_is) c.requires.may in
     let did = c.in_ok-fault in
-    let left_is : c.recover.new.self ≡ (life_after_recovery inside.life).life = c.recover.ensures.left ∙ ap (λ (life : CoreLife). (life_after_recovery life).life) c.copy-life.ensures in
+    let left_is : c.start_again.new.self ≡ (life_after_recovery inside.life).life = c.start_again.ensures.left ∙ ap (λ (life : CoreLife). (life_after_recovery life).life) c.copy-life.ensures in
     let fault_is : c.err-life_fault.result ≡ result_err (life_after_recovery inside.life).answer =
-    c.err-life_fault.ensures.value ∙ ap (λ (answer : Result (Unit {0}) LifeFault). result_err answer) (c.recover.ensures.answer ∙ ap (λ (life : CoreLife). (life_after_recovery life).answer) c.copy-life.ensures) in
+    c.err-life_fault.ensures.value ∙ ap (λ (answer : Result (Unit {0}) LifeFault). result_err answer) (c.start_again.ensures.answer ∙ ap (λ (life : CoreLife). (life_after_recovery life).answer) c.copy-life.ensures) in
     let opens : reopen_fault core ≡ None = subst (λ (why : Option LifeFault). fault_with inside.bench why ≡ None) fault_is (sym did.ensures.refused ∙ c.in_default.is) in
     let left = subst (λ (refused : Option StartFault). IfNone refused (c.reopen_link.new.link ≡ option_map (λ (bench : BenchState). after_reopen (bench_to_reopen bench)) inside.bench)) c.in_default.is did.ensures.left in
-    let life_is : c.recover.new.self ≡ next_life inside.life = left_is ∙ restarts core opens in
-    let loaded : is_offline c.recover.new.self.state ≡ is_offline inside.life.state = ap (λ (life : CoreLife). is_offline life.state) life_is ∙ sym (ap is_offline (crashed_life inside.life may)) in
+    let life_is : c.start_again.new.self ≡ next_life inside.life = left_is ∙ restarts core opens in
+    let loaded : is_offline c.start_again.new.self.state ≡ is_offline inside.life.state = ap (λ (life : CoreLife). is_offline life.state) life_is ∙ sym (ap is_offline (crashed_life inside.life may)) in
     record {
       book = c.self.invariant.book;
       loaded = subst (λ (core : CoreState). IsSoundLoad core.regions c.args.loaded) (sym c.self.view_is) c.requires.sound;
@@ -53,6 +53,6 @@ invariant_of-self-2 c =
       unlinked = λ none. left ∙ still_none (λ (bench : BenchState). after_reopen (bench_to_reopen bench)) inside.bench (c.self.invariant.unlinked (sym (ap (λ (life : CoreLife). life.users) life_is) ∙ none));
       kept = subst (λ (life : CoreLife). IfSome c.reopen_link.new.link (IsKeptBench life)) (sym left_is)
           (subst (λ (found : Option BenchState). IfSome found (IsKeptBench (life_after_recovery inside.life).life)) (sym left) (core_recovered core (load_view c.args.loaded) c.self.invariant.kept opens));
-      ready = subst (λ (actors : ActorsState). IsReadyLink c.recover.new.self.state actors c.reopen_link.new.link) (sym c.restart.ensures)
-          (subst (IsReadyLink c.recover.new.self.state fresh) (sym left) (reopened_link inside.life.state c.recover.new.self.state (actors_view inside.actors) fresh inside.bench refl refl c.self.invariant.ready));
+      ready = subst (λ (actors : ActorsState). IsReadyLink c.start_again.new.self.state actors c.reopen_link.new.link) (sym c.restart.ensures)
+          (subst (IsReadyLink c.start_again.new.self.state fresh) (sym left) (reopened_link inside.life.state c.start_again.new.self.state (actors_view inside.actors) fresh inside.bench refl refl c.self.invariant.ready));
     }

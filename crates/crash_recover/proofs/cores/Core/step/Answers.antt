@@ -1,24 +1,22 @@
-use Rattle.std.proofs.Common.{Some, sym, subst, ◌∙◌, arith}
-use Rattle.std.proofs.lemmas.Bool.{ltb-false}
-use Rattle.core_actors.specs.Actors.{ActorsState, actors_view}
-use Rattle.core_actors.specs.ActorEnds.{actors_after_end}
-use Rattle.link_bench.specs.Benches.{BenchState, advance_walk}
-use Rattle.link_bench.specs.Watchers.{watcher_after}
-use Rattle.crash_recover.specs.KeptCores.{IsKeptBench, IsReadyLink}
-use Rattle.crash_recover.proofs.KeptLinks.{advance_kept}
-use Rattle.crash_recover.proofs.ReadyCores.{advances_ready}
-use Rattle.crash_recover.proofs.SoundCores.{sound_linked}
+use Rattle.std.proofs.Common.{Option, IfSome, sym, subst, ◌∙◌}
+use Rattle.link_bench.specs.declared.acts.ActAnswer.{ActAnswer}
+use Rattle.link_bench.specs.Acts.{HoldsAnswerTaken}
+use Rattle.link_bench.specs.Benches.{BenchState, link_in}
+use Rattle.crash_recover.proofs.CoreActs.{reaches_so, reaches_some, step_answers}
 use Rattle.crash_recover.proofs.cores.Core.step.Goals as goal
 
-pub invariant_of-self-in-None : goal.invariant_of-self-in-None
-invariant_of-self-in-None c =
-    let inside = c.self.inside in
-    let state = inside.life.state in
-    let actors = actors_view inside.actors in
-    let walk = advance_walk c.in-Some.bench 0 0 c.args.caller in
-    let other = ltb-false c.args.caller 2 (sym c.is_own.ensures ∙ c.if-is_own.false) in
-    sound_linked inside.regions inside.book inside.life inside.image inside.loaded c.in-Some.bench c.step_of.new.bench inside.bench actors (actors_view c.step_of.new.self) c.in-Some.is c.self.invariant
-    (λ kept. subst (IsKeptBench inside.life) (sym c.in_ok-step_of-in-None.ensures.bench) (advance_kept inside.life c.in-Some.bench 0 0 c.args.caller kept))
-    (λ _ ready. subst (λ (acted : ActorsState). IsReadyLink state acted (Some c.step_of.new.bench)) (sym c.in_ok-step_of-in-None.ensures.actors)
-    (subst (λ (bench : BenchState). IsReadyLink state (watcher_after actors_after_end walk.bench c.args.caller walk.reach actors) (Some bench)) (sym c.in_ok-step_of-in-None.ensures.bench)
-    (advances_ready state actors c.in-Some.bench c.args.caller (omega (arith, other)) c.show_sound.ensures.fit (sym c.step_fault.ensures.fault ∙ c.in-None.is) ready)))
+pub unreachable-requires : goal.unreachable-requires
+unreachable-requires c =
+    let has = step_answers c.args.self.now c.args.caller c.requires (sym c.step_fault.ensures.fault ∙ c.in_default.is) in
+    reaches_some _ c.args.caller has c.in_ok-reach.field-0 c.in_ok-reach.ensures.reach c.in-None.is
+
+pub returns-clause-reach : goal.returns-clause-reach
+returns-clause-reach c =
+    let has = step_answers c.args.self.now c.args.caller c.requires (sym c.step_fault.ensures.fault ∙ c.in_default.is) in
+    reaches_so _ c.args.caller has c.in_ok-reach.field-0 c.in_ok-reach.ensures.reach c.in-Some-2.reach c.in-Some-2.is
+
+pub returns-clause-taken : goal.returns-clause-taken
+returns-clause-taken c =
+    let has = step_answers c.args.self.now c.args.caller c.requires (sym c.step_fault.ensures.fault ∙ c.in_default.is) in
+    subst (λ (found : Option ActAnswer). IfSome found (λ (told : ActAnswer). IfSome c.act_step.new.self.bench (λ (bench : BenchState). HoldsAnswerTaken (link_in bench) told)))
+    (reaches_so _ c.args.caller has c.in_ok-reach.field-0 c.in_ok-reach.ensures.reach c.in-Some-2.reach c.in-Some-2.is) c.in_ok-reach.ensures.taken

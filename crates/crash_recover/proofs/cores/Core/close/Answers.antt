@@ -8,7 +8,7 @@ use Rattle.crash_recover.specs.KeptCores.{IsKeptBench, IsReadyLink}
 use Rattle.crash_recover.proofs.KeptCrashes.{crash_kept}
 use Rattle.crash_recover.proofs.ReadyCores.{crash_readies}
 use Rattle.crash_recover.proofs.SoundCores.{found_ready, sound_lives}
-use Rattle.crash_recover.proofs.cores.Core.crash_first.Goals as goal
+use Rattle.crash_recover.proofs.cores.Core.close.Goals as goal
 
 pub invariant_of-self-2 : goal.invariant_of-self-2
 invariant_of-self-2 c =
