@@ -2,17 +2,19 @@
 use Rattle.std.proofs.Common.{◌≡◌, ℕ, ◌+◌, Bool, true, false, cond, List, [], ◌∷◌, ◌++◌, length, refl, sym, ap, subst, ◌∙◌, arith}
 use Rattle.std.proofs.lemmas.Bool.{true≢false}
 use Rattle.std.proofs.lemmas.List.{append_assoc, append-nil, length-append}
+use Rattle.rp_base.specs.declared.kinds.BoundEndpoint.{BoundEndpoint}
 use Rattle.rp_base.specs.declared.kinds.End.{End}
+use Rattle.lane_model.specs.Desks.{IsBound}
 use Rattle.lane_model.specs.Links.{LinkState}
 use Rattle.lane_laws.specs.Handings.{Handing, IsPrefix, messages_of, with_numbers, handed_front, due, got}
 use Rattle.lane_laws.specs.Moves.{Close, Move, MayMoves, handings_to, lane_to, link_after_move}
 use Rattle.lane_laws.specs.SoundRingLinks.{HasSoundRings}
 use Rattle.lane_laws.specs.Takes.{IsTold, moves_takes, way_takes}
 use Rattle.lane_laws.specs.Ways.{AreWholeMoves, IsOpened, IsWay, Way, history, link_after_moves, link_of_way, way_on}
-use Rattle.lane_laws.proofs.LinkRuns.{move_shut}
+use Rattle.lane_laws.proofs.LinkRuns.{judged_after, move_shut}
 use Rattle.lane_laws.proofs.RingMoves.{moves_kept}
 use Rattle.lane_laws.proofs.Told.{way_told}
-use Rattle.lane_laws.proofs.WayFacts.{shut_begins, shut_hands_none, shut_most, told_due, told_once}
+use Rattle.lane_laws.proofs.WayFacts.{leads, shut_begins, shut_hands_none, shut_most, told_due, told_once}
 use Rattle.channel_bus.specs.Laws.{side_laws}
 use Rattle.channel_bus.specs.Sides.{EndState, side_meaning}
 use Rattle.link_bench.specs.Benches.{BenchState, LinkRings, link_in}
@@ -234,10 +236,23 @@ module _ (end : End) (bench : BenchState) (account : Account) (tale : IsTale end
         one = omega (arith, most, lengths);
       }
 
+  -- what the way handed over, by the link that it leads to
+  abbrev IsHanded : LinkState EndState → Type 0
+  IsHanded link = messages_of (handings_to (history side_meaning account.way) end) ≡ with_numbers 0 (handed_front (lane_to link end).lane)
+
+  abbrev IsWhole : LinkState EndState → Type 0
+  IsWhole link = (bound : BoundEndpoint) (sender : ℕ) → IsBound side_meaning (lane_to link end).desk bound
+      → got bound.endpoint sender (handings_to (history side_meaning account.way) end) ≡ due side_meaning (lane_to link end).desk bound sender (handed_front (lane_to link end).lane)
+
+  leads_to : (history side_meaning account.way).link ≡ link_in bench
+  leads_to = leads side_meaning account.way ∙ tale.leads
+
   pub account_is : IsAccount end (link_in bench) account
-  account_is = record {
+  account_is = let judged = judged_after side_meaning side_laws account.way.start account.way.moves end tale.way.opened.new tale.way.may in record {
     way = tale.way;
     leads = tale.leads;
+    handed = subst IsHanded leads_to judged.fact.once;
+    whole = subst IsWhole leads_to (λ bound sender is. judged.fact.whole bound sender is);
     told = subst (IsTold end (history side_meaning account.way)) (sym tale.told) (way_told side_meaning account.way end tale.way);
     once = subst (λ (l : List Handing). IsPrefix (messages_of l) (with_numbers 0 (handed_front (lane_to (link_in bench) end).lane))) (sym tale.told)
         (subst (λ (link : LinkState EndState). IsPrefix (messages_of (way_takes side_meaning account.way end)) (with_numbers 0 (handed_front (lane_to link end).lane))) tale.leads

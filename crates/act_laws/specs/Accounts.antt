@@ -2,6 +2,7 @@
 use Rattle.std.specs.Prelude.{◌≡◌, ◌≤◌, ℕ, Bool, true, false, List, [], ◌∷◌, ◌++◌, length, if◌then◌else◌}
 use Rattle.rp_base.specs.declared.kinds.BoundEndpoint.{BoundEndpoint}
 use Rattle.rp_base.specs.declared.kinds.End.{End}
+use Rattle.lane_model.specs.Desks.{IsBound}
 use Rattle.lane_model.specs.Links.{LinkState}
 use Rattle.lane_laws.specs.Handings.{Handing, IsPrefix, due, got, handed_front, messages_of, with_numbers}
 use Rattle.lane_laws.specs.Moves.{Close, Move, handings_to, lane_to}
@@ -45,10 +46,13 @@ pub record IsLate (end : End) (account : Account) : Type 0 where
   pub handed_before : IsPrefix account.told (handings_to (history side_meaning (way_to_close before inc)) end)
   pub one : length account.late ≤ 1
 
--- the account of a link: its way is one from its last opening on and leads to it; what takers were told at this end is what was handed over there on the way, but what a taker in its last step is yet to tell, or one that was reclaimed in a closed incarnation; so it is the first messages of the book, each once and in order, and to an endpoint from a sender how that begins which is due to it
+-- the account of a link: its way is one from its last opening on and leads to it; what the way handed over at this end is the first messages of the book, each once and in order, and an endpoint that is bound got from a sender all that is due to it of these; what takers were told at this end is what was handed over there on the way, but what a taker in its last step is yet to tell, or one that was reclaimed in a closed incarnation; so it is how the book begins, each message once and in order, and to an endpoint from a sender how that begins which is due to it
 pub record IsAccount (end : End) (link : LinkState EndState) (account : Account) : Type 0 where
   pub way : IsWay side_meaning account.way
   pub leads : link_of_way side_meaning account.way ≡ link
+  pub handed : messages_of (handings_to (history side_meaning account.way) end) ≡ with_numbers 0 (handed_front (lane_to link end).lane)
+  pub whole : (bound : BoundEndpoint) (sender : ℕ) → IsBound side_meaning (lane_to link end).desk bound
+      → got bound.endpoint sender (handings_to (history side_meaning account.way) end) ≡ due side_meaning (lane_to link end).desk bound sender (handed_front (lane_to link end).lane)
   pub told : IsTold end (history side_meaning account.way) account.told
   pub once : IsPrefix (messages_of account.told) (with_numbers 0 (handed_front (lane_to link end).lane))
   pub due : (bound : BoundEndpoint) (sender : ℕ) → WasBoundOnWay side_meaning account.way end bound

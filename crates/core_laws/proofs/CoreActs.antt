@@ -1,6 +1,5 @@
 -- What acts leave of a link and of a core: it is reached, kept and ready where it was.
 use Rattle.std.proofs.Common.{ℕ, List, Option, Some, None, IfSome}
-use Rattle.lane_model.specs.Links.{end_of}
 use Rattle.link_bench.specs.declared.acts.LinkAct.{LinkAct}
 use Rattle.link_bench.specs.declared.benches.Reach.TheVariants as reach
 use Rattle.link_bench.specs.ActParts.{ActPart, Advances, Begins, Calls, Joins, Reclaims, Sees, watcher_after_part}
@@ -19,7 +18,8 @@ use Rattle.crash_recover.proofs.KeptBenches.{act_keeps}
 use Rattle.crash_recover.proofs.ReadyCores.{act_ready}
 use Rattle.core_laws.specs.BenchMoves.{AreSendable, IsReachedBench, IsReachedCore}
 use Rattle.core_laws.proofs.BenchMoves.{advanced, begun_reached, called, enlisted, reclaim_tried}
-use Rattle.core_laws.proofs.CoreMoves.{seen_calls}
+use Rattle.core_laws.proofs.ActorCalls.{seen_fit}
+use Rattle.core_laws.proofs.Sendable.{sendable_calls, short_messages}
 
 -- ---- reached
 
@@ -42,7 +42,7 @@ record AreReachedBoth (bench : BenchState) (actors : ActorsState) : Type 0 where
   pub calls : AreSendable actors
 
 part_calls : (bench : BenchState) (actors : ActorsState) (part : ActPart) → IsReachedBench bench → AreSendable actors → AreSendable (watcher_after_part actors_after_end bench actors part)
-part_calls bench actors (Sees caller (reach.Ended end)) reached is = seen_calls actors bench caller end (end_of (link_in bench).callers caller) reached.link.short is
+part_calls bench actors (Sees caller (reach.Ended end)) reached is = seen_fit sendable_calls actors bench caller end (short_messages (link_in bench) reached.link.short) is
 part_calls bench actors other reached is = is
 
 both_part : KeptByParts actors_after_end 2 IsSendable AreReachedBoth

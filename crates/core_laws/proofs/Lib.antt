@@ -3,6 +3,7 @@ pub mod LinkMoves
 pub mod CallMoves
 pub mod BenchMoves
 pub mod Handed
+pub mod ActorCalls
 pub mod Sendable
 pub mod DriveWalks
 pub mod CoreMoves

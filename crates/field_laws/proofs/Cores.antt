@@ -1,5 +1,5 @@
 -- What the calls of a core leave and answer has its numbers and bytes within their types.
-use Rattle.std.proofs.Common.{◌≡◌, ℕ, zero, suc, ◌+◌, ◌-◌, ◌<◌, ◌≤◌, ◌^◌, ◌==◌, Bool, true, false, cond, List, [], ◌∷◌, length, Option, Some, None, IfSome, Result, Ok, Err, is_some, refl, sym, ap, ◌∙◌, subst, arith}
+use Rattle.std.proofs.Common.{◌≡◌, ℕ, zero, suc, ◌+◌, ◌-◌, ◌<◌, ◌≤◌, ◌^◌, ◌==◌, Bool, true, false, cond, List, [], ◌∷◌, length, Option, Some, None, IfSome, Result, Ok, Err, refl, sym, ap, ◌∙◌, subst, arith}
 use Rattle.std.specs.Prelude.{All, fold, nat_lt}
 use Rattle.std.specs.List.{range_with_len}
 use Rattle.std.specs.Option.{option_and_then, option_map, option_or}
@@ -38,7 +38,6 @@ use Rattle.lane_model.specs.Links.{LinkState}
 use Rattle.lane_model.specs.Recoveries.{link_reopen_refusal, link_reclaim_refusal}
 use Rattle.lane_model.specs.Soundness.{AreHandedOnce, AreUsers, IsSoundTurn, SoundLink}
 use Rattle.channel_bus.specs.Sides.{EndState}
-use Rattle.link_bench.specs.BenchCrashes.{after_reopen}
 use Rattle.link_bench.specs.BenchEnds.{bench_to_reopen, crashed_bench, reopen_refusal_by, reopen_refusal_of, with_new_host, with_new_host_unless}
 use Rattle.link_bench.specs.BenchHolds.{caller_out, is_out}
 use Rattle.link_bench.specs.Benches.{BenchState, link_in, new_bench_of, with_new_caller}
@@ -48,12 +47,13 @@ use Rattle.crash_recover.specs.declared.core_faults.LeaveFault.TheVariants as le
 use Rattle.crash_recover.specs.declared.core_faults.StartFault.{StartFault}
 use Rattle.crash_recover.specs.declared.core_faults.StartFault.TheVariants as start_fault
 use Rattle.crash_recover.specs.CoreBoots.{boot_as, boot_of, config_of, core_bench, first_boot, fresh_end, handover_as, handover_of, image_fault, load_in, started_core, with_load}
-use Rattle.crash_recover.specs.CoreCrashes.{crashed_core, first_report, report_as, report_of}
+use Rattle.crash_recover.specs.CoreCrashes.{crashed_core, first_report, link_incarnation, report_as, report_of}
 use Rattle.crash_recover.specs.CoreLeaves.{close_or, detach_of, detached_core, leave_as, live_inc, shutdown_of, unloaded_core}
 use Rattle.crash_recover.specs.CoreRecoveries.{core_to_reopen, fault_with, recovery_of, reload_fault, reopen_fault, rings_fault}
 use Rattle.crash_recover.specs.Cores.{CoreOutcome, CoreState, loaded_rings, new_core, refuse_or}
 use Rattle.core_laws.specs.BenchMoves.{IsReachedBench, IsReachedCore}
-use Rattle.core_laws.proofs.CoreMoves.{readied}
+use Rattle.core_laws.proofs.CoreMoves.{found_reopened, map_has, readied, reopens}
+use Rattle.core_laws.proofs.Outcomes.{first_none}
 use Rattle.crash_recover.proofs.Restarts.{restarts}
 use Rattle.crash_recover.proofs.SameLives.{starts_up}
 use Rattle.core_laws.proofs.CrashReclaims.{reached_sound}
@@ -383,29 +383,8 @@ reload_fields core found are =
     or_has IsFieldStartFault (image_fault core found) (rings_fault core (load_in core found)) (image_fields core found are)
     (cond_both _ None (Some start_fault.RingsChanged) (λ (why : Option StartFault). IfSome why IsFieldStartFault) (λ _. tt) (λ _. tt))
 
-map_fields : (found : Option BenchState) (f : BenchState → BenchState) → ((bench : BenchState) → IsFieldBench bench → IsFieldBench (f bench)) → IfSome found IsFieldBench → IfSome (option_map f found) IsFieldBench
-map_fields None f each is = is
-map_fields (Some bench) f each is = each bench is
-
 readied_fields : (core : CoreState) → IsFieldCore core → IsFieldCore (core_to_reopen core)
-readied_fields core is = record { book = is.book; life = is.life; image = is.image; loaded = is.loaded; placed = is.placed; rest = is.rest; bench = map_fields core.bench bench_to_reopen ready_fields is.bench; calls = is.calls }
-
-clear_at : (bench : BenchState) (why : Option ReclaimRefusal) → reopen_refusal_by bench why ≡ None → link_reopen_refusal (link_in (with_new_host_unless bench why)) ≡ None
-clear_at bench None clear = clear
-clear_at bench (Some why) clear = absurd (true≢false (ap is_some clear))
-
-first_none : (refusal : Option ReopenFault) (later : Option StartFault) → option_or (option_map start_fault.Reopen refusal) later ≡ None → refusal ≡ None
-first_none None later none = refl
-first_none (Some why) later none = absurd (true≢false (ap is_some none))
-
-image_none : (first later : Option StartFault) → option_or first later ≡ None → first ≡ None
-image_none None later none = refl
-image_none (Some why) later none = absurd (true≢false (ap is_some none))
-
-found_reopened : (found : Option BenchState) (why : Option LifeFault) → fault_with found why ≡ None → IfSome found IsFieldBench → IfSome (option_map (λ bench. after_reopen (bench_to_reopen bench)) found) IsFieldBench
-found_reopened None why none is = is
-found_reopened (Some bench) why none is =
-    reopen_fields (bench_to_reopen bench) (clear_at bench (link_reclaim_refusal (link_in bench) 0) (first_none (reopen_refusal_of bench) (option_map start_fault.Life why) none)) (ready_fields bench is)
+readied_fields core is = record { book = is.book; life = is.life; image = is.image; loaded = is.loaded; placed = is.placed; rest = is.rest; bench = map_has IsFieldBench core.bench bench_to_reopen ready_fields is.bench; calls = is.calls }
 
 pub recovery_fields : (core : CoreState) (found : ImageAnswer) → IfOk found AreBytes → SoundRegions core.regions → IsReachedCore core → IsFieldCore core → HoldsOut IsFieldStart IsFieldStartFault (recovery_of core found)
 unfolding recovery_of
@@ -414,7 +393,7 @@ recovery_fields core found are sound reached is =
     let few = after.life.incarnation in
     refused IsFieldStart IsFieldStartFault core (option_map start_fault.Life (recovery_fault core.life)) _ is (life_fault_fields (recovery_fault core.life)) (λ _.
     refused IsFieldStart IsFieldStartFault core (reload_fault core found) _ is (reload_fields core found are) (λ reloads.
-    let clear = image_none (image_fault core found) (rings_fault core (load_in core found)) reloads in
+    let clear = first_none (image_fault core found) (rings_fault core (load_in core found)) reloads in
     refused IsFieldStart IsFieldStartFault (core_to_reopen core) (reopen_fault core) _ (readied_fields core is) (with_fields core.bench (result_err (life_after_recovery core.life).answer) reached.bench is.bench) (λ opens.
     record {
       core = record {
@@ -424,7 +403,8 @@ recovery_fields core found are sound reached is =
         loaded = load_fields core found are;
         placed = load_placed core found sound clear;
         rest = λ off. absurd (true≢false (sym off ∙ ap (λ (life : CoreLife). is_offline life.state) (restarts core opens)));
-        bench = found_reopened core.bench (result_err (life_after_recovery core.life).answer) opens is.bench;
+        bench = found_reopened IsFieldBench core.bench (λ bench clear here. reopen_fields (bench_to_reopen bench) clear (ready_fields bench here))
+            (reopens core.bench (result_err (life_after_recovery core.life).answer) opens) is.bench;
         calls = no_calls core _;
       };
       answer = omega (arith, few);
@@ -490,6 +470,11 @@ detach_fields may_step core is =
 
 -- ---- crashes
 
+-- the incarnation of a link is a number of a line
+pub closed_field : (link : Option BenchState) → IfSome link IsFieldBench → IfSome (link_incarnation link) (λ inc. inc < 2 ^ 64)
+closed_field None here = tt
+closed_field (Some bench) here = let inc = here.link.inc in omega (arith, inc)
+
 -- what a crash report leaves of a core, and what it answers
 pub record HoldsReport (out : CoreOutcome Crash LifeFault) : Type 0 where
   pub core : IsFieldCore out.core
@@ -504,15 +489,14 @@ module _ (core : CoreState) (is : IsFieldCore core) (life : CoreLife) (living : 
     loaded = is.loaded;
     placed = is.placed;
     rest = λ there. is.rest (off there);
-    bench = map_fields core.bench crashed_bench crash_fields is.bench;
+    bench = map_has IsFieldBench core.bench crashed_bench crash_fields is.bench;
     calls = is.calls;
   }
 
   first_crash : (may_step : Bool) (found : Option BenchState) → IfSome found IsFieldBench → HoldsReport (first_report may_step life core found)
   first_crash may_step None here = record { core = crashed_fields; answer = tt }
   first_crash may_step (Some bench) here =
-      let inc = here.link.inc in
-      cond_both may_step _ _ HoldsReport (λ _. record { core = crashed_fields; answer = omega (arith, inc) }) (λ _. record { core = is; answer = tt })
+      cond_both may_step _ _ HoldsReport (λ _. record { core = crashed_fields; answer = closed_field (Some bench) here }) (λ _. record { core = is; answer = tt })
 
   report_at : (may_step : Bool) (answer : Result Report LifeFault) → HoldsReport (report_as may_step life answer core)
   report_at may_step (Err why) = record { core = is; answer = tt }

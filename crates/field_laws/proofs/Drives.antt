@@ -1,9 +1,5 @@
 -- Steps of a core's actors, and acts on its link, keep the numbers and bytes of the core within their types.
-use Rattle.std.proofs.Common.{◌≡◌, ℕ, ◌<◌, ◌^◌, true, List, Option, Some, IfSome, is_some, Result, Ok, Err, IfOk, sym, ap, subst, ◌∙◌, arith}
-use Rattle.proc_state.specs.declared.answers.LifeFault.{LifeFault}
-use Rattle.crash_recover.specs.declared.core_answers.Crash.{Crash}
-use Rattle.crash_recover.specs.declared.core_answers.Crash.TheVariants as crash
-use Rattle.crash_recover.specs.CoreCrashes.{report_of}
+use Rattle.std.proofs.Common.{◌≡◌, ℕ, ◌<◌, ◌^◌, true, List, Option, Some, IfSome, is_some, sym, ap, subst, ◌∙◌, arith}
 use Rattle.std.proofs.lemmas.Bool.{cond_both, true≢false}
 use Rattle.memory_pool.specs.Regions.{memory_len}
 use Rattle.remote_core.specs.declared.workers.Work.{Work}
@@ -15,7 +11,7 @@ use Rattle.link_bench.specs.declared.benches.Reach.{Reach}
 use Rattle.link_bench.specs.declared.benches.Reach.TheVariants as reach
 use Rattle.link_bench.specs.ActParts.{ActPart, Sees, watcher_after_part}
 use Rattle.link_bench.specs.Acts.{Acted, IsFitAct}
-use Rattle.link_bench.specs.Benches.{BenchState, IsSendable, advance_walk, is_in_call, start_walk}
+use Rattle.link_bench.specs.Benches.{BenchState, IsSendable, advance_walk, is_in_call, link_in, start_walk}
 use Rattle.link_bench.proofs.ActParts.{KeptByParts}
 use Rattle.link_bench.proofs.ActWalks.{act_kept}
 use Rattle.core_actors.specs.declared.progress.Driven.{Driven}
@@ -25,18 +21,19 @@ use Rattle.core_actors.specs.ActorEnds.{actors_after_end}
 use Rattle.core_actors.specs.ActorSteps.{drive_of_reach, drive_of_work, first_or_take, host_at_step, link_step}
 use Rattle.crash_recover.specs.CoreActs.{act_on_core, core_after_act}
 use Rattle.crash_recover.specs.Cores.{CoreState, LoadState}
-use Rattle.crash_recover.specs.Drives.{DriveStep, closed_by, drive_step, driven_with_report, host_step, placed_map, run_by, step_with_report, worker_call}
+use Rattle.crash_recover.specs.Drives.{DriveStep, drive_step, driven_with_report, host_step, placed_map, run_by, step_with_report, worker_call}
 use Rattle.core_laws.specs.BenchMoves.{IsReachedBench, IsReachedCore}
 use Rattle.core_laws.specs.DriveParts.{MayDrive}
 use Rattle.core_laws.proofs.CoreMoves.{StandsReady, first_sendable, link_reached, turned_stands}
 use Rattle.core_laws.proofs.DriveWalks.{HoldOfSteps, MayGoOn, may_host, may_worker, of_link, reported, step_walk}
 use Rattle.field_laws.specs.Fields.{IsFieldWish}
 use Rattle.field_laws.specs.FieldBenches.{IsFieldAct, IsFieldActed, IsFieldBench, IsFieldReach}
-use Rattle.field_laws.specs.FieldCores.{AreFieldCalls, IsFieldCore, IsFieldCrash, IsFieldDriven, IsFieldLoad, IsFieldPlaced}
-use Rattle.field_laws.proofs.Actors.{first_fields, host_begun_fields, host_fields, memory_fields, ran_fields, seen_fields, worker_fields}
+use Rattle.field_laws.specs.FieldCores.{AreFieldCalls, IsFieldCore, IsFieldDriven, IsFieldLoad, IsFieldPlaced}
+use Rattle.core_laws.proofs.ActorCalls.{first_fits, host_begun_fit, host_step_fit, ran_fit, seen_fit, worker_step_fit}
+use Rattle.field_laws.proofs.Actors.{field_calls, field_end, field_messages, memory_fields, work_fields}
 use Rattle.field_laws.proofs.Acts.{HoldsBench, IsFit, act_told, fit_calls, part_holds}
 use Rattle.field_laws.proofs.Benches.{HoldsBenchWalk, advance_fields, start_fields}
-use Rattle.field_laws.proofs.Cores.{report_fields}
+use Rattle.field_laws.proofs.Cores.{closed_field, report_fields}
 use Rattle.field_laws.proofs.Rooms.{memory_longer}
 
 -- a step of the actors, and what it was
@@ -61,7 +58,7 @@ host_at : (core : CoreState) (bench : BenchState) → core.bench ≡ Some bench 
 host_at core bench there ready is =
     let walk = link_step bench 0 (first_or_take core.actors.host_calls) in
     let left = link_fields bench 0 core.actors.host_calls (may_host core bench there ready.may) (link_reached core bench there ready) (of_link IsFieldBench core bench there is.bench)
-    (first_sendable core.actors.host_calls ready.reached.calls.host) (first_fields core.actors.host_calls is.calls.host) in
+    (first_sendable core.actors.host_calls ready.reached.calls.host) (first_fits field_calls core.actors.host_calls is.calls.host) in
     record {
       core = record {
         book = is.book;
@@ -71,7 +68,8 @@ host_at core bench there ready is =
         placed = is.placed;
         rest = is.rest;
         bench = left.bench;
-        calls = host_fields (host_at_step bench core.actors) walk.bench walk.reach left.bench.link left.reach (host_begun_fields bench core.actors is.calls);
+        calls = host_step_fit field_calls (host_at_step bench core.actors) walk.bench walk.reach (field_messages (link_in walk.bench) left.bench.link) (field_end walk.reach left.reach)
+            (host_begun_fit field_calls bench core.actors is.calls);
       };
       driven = by_reach 0 walk.reach (omega arith) left.reach;
     }
@@ -80,9 +78,18 @@ worker_at : (core : CoreState) (bench : BenchState) → core.bench ≡ Some benc
 worker_at core bench there ready is =
     let walk = link_step bench 1 (first_or_take core.actors.worker_calls) in
     let left = link_fields bench 1 core.actors.worker_calls (may_worker core bench there ready.may) (link_reached core bench there ready) (of_link IsFieldBench core bench there is.bench)
-    (first_sendable core.actors.worker_calls ready.reached.calls.worker) (first_fields core.actors.worker_calls is.calls.worker) in
+    (first_sendable core.actors.worker_calls ready.reached.calls.worker) (first_fits field_calls core.actors.worker_calls is.calls.worker) in
     record {
-      core = record { book = is.book; life = is.life; image = is.image; loaded = is.loaded; placed = is.placed; rest = is.rest; bench = left.bench; calls = worker_fields core.actors walk.bench walk.reach left.reach is.calls };
+      core = record {
+        book = is.book;
+        life = is.life;
+        image = is.image;
+        loaded = is.loaded;
+        placed = is.placed;
+        rest = is.rest;
+        bench = left.bench;
+        calls = worker_step_fit field_calls core.actors walk.bench walk.reach (field_end walk.reach left.reach) is.calls;
+      };
       driven = by_reach 1 walk.reach (omega arith) left.reach;
     }
 
@@ -108,24 +115,18 @@ run_fields core load same is here placed =
         placed = record { memory = memory_longer load.memory map (is_some core.bench) core.actors.worker (memory_len core.regions) placed.memory; few = placed.few; ranges = placed.ranges };
         rest = λ off. absurd (true≢false (ap is_some (sym same ∙ is.rest off)));
         bench = is.bench;
-        calls = ran_fields core.actors load.memory map (is_some core.bench) here.memory is.calls;
+        calls = ran_fit field_calls core.actors load.memory map (is_some core.bench) (work_fields load.memory map (is_some core.bench) core.actors.worker here.memory) is.calls;
       };
       driven = by_work (work_of load.memory map (is_some core.bench) core.actors.worker);
     }
 
 -- what a report closed is a number of the line
-closed_field : (answer : Result Crash LifeFault) → IfOk answer IsFieldCrash → IfSome (closed_by answer) (λ inc. inc < 2 ^ 64)
-closed_field (Ok (crash.First closed)) is = is
-closed_field (Ok crash.Already) is = tt
-closed_field (Ok crash.Limit) is = tt
-closed_field (Err why) is = tt
-
 closed_fields : (event : Driven) (core : CoreState) → IsFieldCore core → IsFieldDriven event → IsFieldDriven (driven_with_report event core)
 closed_fields driven.Idle core is told = told
 closed_fields driven.Stepped core is told = told
 closed_fields (driven.Ended caller ended) core is told = told
-closed_fields (driven.Worker why closed) core is told = closed_field (report_of true core).answer (report_fields true core is).answer
-closed_fields (driven.Crashed kind closed) core is told = closed_field (report_of true core).answer (report_fields true core is).answer
+closed_fields (driven.Worker why closed) core is told = closed_field core.bench is.bench
+closed_fields (driven.Crashed kind closed) core is told = closed_field core.bench is.bench
 
 record_fields : (core : CoreState) (load : LoadState) → core.loaded ≡ Some load → IsFieldCore core → HoldsDrive (step_with_report (run_by core load (placed_map core.regions load)))
 record_fields core load same is =
@@ -165,7 +166,7 @@ pub record HoldsBoth (bench : BenchState) (actors : ActorsState) : Type 0 where
   pub calls : AreFieldCalls actors
 
 part_calls : (bench : BenchState) (actors : ActorsState) (part : ActPart) → HoldsBench bench → AreFieldCalls actors → AreFieldCalls (watcher_after_part actors_after_end bench actors part)
-part_calls bench actors (Sees caller (reach.Ended ended)) holds is = seen_fields actors bench caller ended holds.fields.link is
+part_calls bench actors (Sees caller (reach.Ended ended)) holds is = seen_fit field_calls actors bench caller ended (field_messages (link_in bench) holds.fields.link) is
 part_calls bench actors other holds is = is
 
 both_part : KeptByParts actors_after_end 2 IsFit HoldsBoth

@@ -11,8 +11,12 @@ ghost use Rattle.endpoint_map.specs.declared.endpoints.TheConstants.{ANY_ADDRESS
 ghost use Rattle.channel_bus.specs.declared.sides.TheConstants.{NAME_SERVICE};
 ghost use Rattle.lane_model.specs.declared.TheConstants.{MANAGER};
 ghost use Rattle.journal_check.specs.declared.limits.TheConstants.{TRANSCRIPT_MOST};
+ghost use Rattle.core_actors.specs.declared.actors.TheConstants.{HOST_CALLER, WORKER_CALLER};
+ghost use Rattle.crash_recover.specs.declared.core_acts.TheConstants.{OWN_CALLERS};
 ghost use Rattle.crash_recover.specs.declared.core_faults.TheConstants.{CALLER_OUT, RINGS_CHANGED};
+ghost use Rattle.command_run.specs.declared.core_drives.TheConstants.{STRETCH};
 ghost use Rattle.command_run.specs.declared.dumps.TheConstants.{DUMPS_MOST};
+ghost use Rattle.link_commands.specs.declared.logs.TheConstants.{PIECE};
 ghost use Rattle.lane_model.specs.Links.{LinkState};
 ghost use Rattle.channel_bus.specs.Sides.{EndState};
 ghost use Rattle.link_bench.specs.declared.acts.ActAnswer.{ActAnswer};
@@ -44,7 +48,8 @@ pub fn end_limits()
 {}
 
 /// The limits of cores: bytes of an image, entries of a resource table, regions, bytes of memory, bytes of the standard memory, drivers; and
-/// the faults of a recovery with other rings, and of a caller that is out.
+/// the faults of a recovery with other rings, and of a caller that is out; and the callers of a core's link that are its own: how many, that of its
+/// drivers and that of its worker.
 pub fn core_limits()
     ensures image { IMAGE_MOST ≡ 4194304 }
     ensures entries { ENTRIES_MOST ≡ 256 }
@@ -54,10 +59,14 @@ pub fn core_limits()
     ensures drivers { DRIVERS_MOST ≡ 16 }
     ensures rings_changed { RINGS_CHANGED ≡ 42 }
     ensures caller_out { CALLER_OUT ≡ 54 }
+    ensures own_callers { OWN_CALLERS ≡ 2 }
+    ensures host_caller { HOST_CALLER ≡ 0 }
+    ensures worker_caller { WORKER_CALLER ≡ 1 }
 {}
 
 /// The limits of scripts: bytes, lines, links and cores together, steps of a run, bytes of a name, dumps, sessions of a demo; the bytes of a
-/// transcript that is audited; and the callers on an end of a storm and the messages of each.
+/// transcript that is audited; the bytes of a transcript from which on they are handed to the sink, and the steps of a drive between two looks at that;
+/// and the callers on an end of a storm and the messages of each.
 pub fn script_limits()
     ensures bytes { SCRIPT_MOST ≡ 1048576 }
     ensures lines { SCRIPT_LINES_MOST ≡ 10000 }
@@ -67,6 +76,8 @@ pub fn script_limits()
     ensures dumps { DUMPS_MOST ≡ 64 }
     ensures sessions { SESSIONS_MOST ≡ 500 }
     ensures transcript { TRANSCRIPT_MOST ≡ 16777216 }
+    ensures piece { PIECE ≡ 16384 }
+    ensures stretch { STRETCH ≡ 1024 }
     ensures end_callers { END_CALLERS_MOST ≡ 31 }
     ensures count { COUNT_MOST ≡ 8192 }
 {}

@@ -52,6 +52,7 @@ use Rattle.link_commands.specs.declared.acts.ManagerAct.{ManagerAct}
 use Rattle.link_commands.specs.declared.acts.ManagerAct.TheVariants as manager
 use Rattle.link_commands.specs.declared.acts.NamedAct.{NamedAct}
 use Rattle.link_commands.specs.declared.acts.NamedAct.TheVariants as under
+use Rattle.link_commands.specs.Acts.{IsFitView}
 use Rattle.link_commands.specs.CallEvents.{end_event, fault_event, reach_events, refused_event, took_event}
 use Rattle.link_commands.specs.ChannelLists.{channel_event, channels_events, channel_events_unless}
 use Rattle.link_commands.specs.Effects.{Effect, answer_events, reclaim_event, tells, turn_events}
@@ -70,7 +71,7 @@ use Rattle.field_laws.proofs.Cores.{link_refusal_fields}
 use Rattle.field_laws.proofs.Lanes.{counts_small}
 use Rattle.field_laws.proofs.Rings.{ring_are}
 use Rattle.field_laws.proofs.Steps.{holder_small}
-use Rattle.line_laws.proofs.Known.{IsKnownAct, IsKnownView}
+use Rattle.line_laws.proofs.Known.{IsKnownAct}
 use Rattle.line_laws.proofs.RingLengths.{bytes_few}
 use Rattle.line_laws.proofs.Spelled.{IsName, IsSpelled, none, one, two}
 
@@ -238,12 +239,12 @@ module _ (name : List ℕ) (named : IsName name) where
   books_spelled lane state first sound is =
       let counts = counts_small state sound is in ((named, (first, (counts.accepted, (counts.takers, (counts.returned, tt))))), tt)
 
-  pub view_spelled : (bench : BenchState) (shown : LinkView) → IsKnownView shown → HasSoundRings bench.rings → SoundLink (link_in bench) → IsFieldLink (link_in bench) → All IsSpelled (view_events name bench shown)
+  pub view_spelled : (bench : BenchState) (shown : LinkView) → IsFitView shown → HasSoundRings bench.rings → SoundLink (link_in bench) → IsFieldLink (link_in bench) → All IsSpelled (view_events name bench shown)
   unfolding view_events
   view_spelled bench view.Books fits rings sound is =
       two (lane_event name 0 (link_in bench).to_host) (lane_event name 1 (link_in bench).to_remote) (books_spelled 0 (link_in bench).to_host (omega arith) sound.to_host.lane is.to_host)
       (books_spelled 1 (link_in bench).to_remote (omega arith) sound.to_remote.lane is.to_remote)
-  view_spelled bench (view.Ring lane) fits rings sound is = bench_ring_spelled bench lane fits rings sound is
+  view_spelled bench (view.Ring lane) fits rings sound is = bench_ring_spelled bench lane (omega (arith, fits)) rings sound is
   view_spelled bench view.Channels fits rings sound is = channels_spelled bench sound is
 
   -- ---- what its manager does

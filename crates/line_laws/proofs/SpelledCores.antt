@@ -91,6 +91,7 @@ use Rattle.link_commands.specs.declared.acts.CoreView.{CoreView}
 use Rattle.link_commands.specs.declared.acts.CoreView.TheVariants as shows
 use Rattle.link_commands.specs.declared.acts.StartAct.{StartAct}
 use Rattle.link_commands.specs.declared.acts.StartAct.TheVariants as starts
+use Rattle.link_commands.specs.Acts.{IsFitView}
 use Rattle.link_commands.specs.CallEvents.{end_event}
 use Rattle.command_run.specs.CoreCommands.{add_fault_events, core_effect}
 use Rattle.command_run.specs.CoreDrives.{actor_end_events, drive_effect, driven_events, step_events}
@@ -103,6 +104,7 @@ use Rattle.command_run.specs.NamedCores.{NamedCoreState}
 use Rattle.command_run.specs.NamedImages.{ImageState}
 use Rattle.run_laws.proofs.CoreActWalks.{ActOutcome, AddsDriver, AddsRegion, Crashes, Detaches, Drives, Exists, HasNoManager, LinkActs, RefusesDriver, RefusesRegion, ShowsCore, ShowsLink, ShutsDown, Starts, Switches, act_outcome}
 use Rattle.run_laws.proofs.CoresReady.{IsSoundCore, may_drive, sound_cores}
+use Rattle.run_laws.proofs.RunnableLines.{IsRunnableCoreView}
 use Rattle.run_laws.proofs.ScriptDrives.{drive_keeps, drive_tells, last_is}
 use Rattle.way_laws.proofs.CoreRungs.{IsRung, IsRungCore}
 use Rattle.field_laws.specs.Fields.{AreBytes, IsFieldEnd}
@@ -118,7 +120,7 @@ use Rattle.field_laws.proofs.Images.{memory_bytes}
 use Rattle.field_laws.proofs.Rings.{ring_are}
 use Rattle.field_laws.proofs.Sides.{find_has}
 use Rattle.field_laws.proofs.Tables.{entries_few, entries_fields}
-use Rattle.line_laws.proofs.Known.{IsKnownAct, IsKnownCoreView, IsKnownView}
+use Rattle.line_laws.proofs.Known.{IsKnownAct}
 use Rattle.line_laws.proofs.SaidScripts.{IsSaidStart}
 use Rattle.line_laws.proofs.RingLengths.{pair_few}
 use Rattle.line_laws.proofs.Spelled.{AreSpelled, IsName, IsSpelled, none, one, two}
@@ -355,13 +357,13 @@ module _ (name : List ℕ) (named : IsName name) where
     unfolding core_ring_events
     ring_shown lane first reached = shown_at lane (core_turn_holder core) first (core_turn core.bench reached is.bench)
 
-    viewed_at : (shown : LinkView) (found : Option BenchState) → IsKnownView shown → IfSome found IsRung → IfSome found IsReachedBench → IfSome found IsFieldBench → All IsSpelled (found_view_events name shown found)
+    viewed_at : (shown : LinkView) (found : Option BenchState) → IsFitView shown → IfSome found IsRung → IfSome found IsReachedBench → IfSome found IsFieldBench → All IsSpelled (found_view_events name shown found)
     viewed_at shown None knows rung reached here = one (event.NoLink name) (((named, tt), tt))
     viewed_at shown (Some bench) knows rung reached here = view_spelled name named bench shown knows rung (reached_sound (link_in bench) reached.link) here.link
 
-    view_shown : (shown : LinkView) → IsKnownView shown → IfSome core.bench IsReachedBench → All IsSpelled (link_view_events name core shown)
+    view_shown : (shown : LinkView) → IsFitView shown → IfSome core.bench IsReachedBench → All IsSpelled (link_view_events name core shown)
     view_shown view.Books knows reached = viewed_at view.Books core.bench tt rungs.bench reached is.bench
-    view_shown (view.Ring lane) knows reached = ring_shown lane knows reached
+    view_shown (view.Ring lane) knows reached = ring_shown lane (omega (arith, knows)) reached
     view_shown view.Channels knows reached = viewed_at view.Channels core.bench tt rungs.bench reached is.bench
 
   -- ---- what a core is made of
@@ -390,16 +392,17 @@ module _ (name : List ℕ) (named : IsName name) where
         All-map IsSpelled (table_event name) (table_rows loaded.table loaded.traces)
         (λ at other within. row_words name named (slice_index_or (table_rows loaded.table loaded.traces) at other) (table_rows_are loaded.table loaded.traces here.table at other within))
 
-    shown_spelled : (shown : CoreView) → IsKnownCoreView shown → All IsSpelled (core_view_events name core shown)
+    shown_spelled : (shown : CoreView) → IsRunnableCoreView shown → All IsSpelled (core_view_events name core shown)
     unfolding table_events trace_event memory_event
     shown_spelled shows.State knows =
         let users = is.life.users in
         let inc = is.life.incarnation in
         one (state_event name core) (((named, (tt, (omega (arith, users), (omega (arith, inc), tt)))), tt))
     shown_spelled shows.Table knows = table_at core.loaded is.loaded
-    shown_spelled (shows.Trace index) knows = one _ (trace_told index (trace_bytes core index) knows (traced core index is.loaded))
+    shown_spelled (shows.Trace index) knows = one _ (trace_told index (trace_bytes core index) (omega (arith, knows)) (traced core index is.loaded))
     shown_spelled (shows.Mem da len) knows =
-        one _ (memory_told da len (core_memory core da len) knows.0 knows.2 (loaded_some core.regions da len core.loaded knows.1 is.placed) (loaded_short core.regions da len core.loaded) (memory_bytes core da len core.loaded is.loaded))
+        let small = knows.0 in
+        one _ (memory_told da len (core_memory core da len) (omega (arith, small)) knows.1.1 (loaded_some core.regions da len core.loaded knows.1.0 is.placed) (loaded_short core.regions da len core.loaded) (memory_bytes core da len core.loaded is.loaded))
 
   -- ---- lives
 

@@ -122,11 +122,8 @@ module _ (name image : List ℕ) (named : IsName name) (called : IsName image) w
 -- ---- commands
 
 fits_named : (wanted : NamedAct (List ℕ)) → IsKnownAct wanted → FitsNamed IsFitAct wanted
-fits_named (under.Make made) knows = tt
 fits_named (under.Link asked) knows = knows.0
-fits_named (under.Manage managed) knows = tt
-fits_named (under.Show shown) knows = tt
-fits_named (under.Core asked) knows = tt
+fits_named other knows = tt
 
 -- whatever the outcome of a command is
 module _ (answer : ImageAnswer) (told_are : IfOk answer AreBytes) (run : RunState) (are : AreFieldObjects run.objects) (sound : AreSound run.objects) where
@@ -152,13 +149,14 @@ module _ (answer : ImageAnswer) (told_are : IfOk answer AreBytes) (run : RunStat
   outcome_spelled (NamesNothing name wanted _) knows = told run (event.Unknown name) are (((knows.0, tt), tt))
   outcome_spelled (HasNoRoom name made _) knows = told run event.ObjectsFull are (tt, tt)
   outcome_spelled (MakesLink name config has_service _) knows =
-      let small = knows.1.0 in
-      let fits = knows.1.1 in record {
+      let fits = knows.1.0 in
+      let few = fits.2.1 in
+      let first = knows.1.1 in record {
         left = record {
           links = All-push IsFieldNamedLink run.objects.links (made_link name config has_service) are.links
               (record {
                 name = knows.0;
-                bench = new_fields config (new_end has_service) (new_end false) small.0 small.1 (fresh_fields (new_end has_service)) (fresh_fields (new_end false));
+                bench = new_fields config (new_end has_service) (new_end false) (omega (arith, first)) (omega (arith, few)) (fresh_fields (new_end has_service)) (fresh_fields (new_end false));
                 tale = record { account = _; tale = made_tale side.Host config has_service fits.0 fits.1 fits.2 };
               });
           cores = are.cores;
@@ -167,10 +165,11 @@ module _ (answer : ImageAnswer) (told_are : IfOk answer AreBytes) (run : RunStat
         events = one (event.Open name 1) (((knows.0, (omega arith, tt)), tt));
       }
   outcome_spelled (MakesCore name set book _) knows =
-      let fits = knows.1 in record {
+      let fits = knows.1 in
+      let few = fits.1 in record {
         left = record {
           links = are.links;
-          cores = All-push IsFieldNamedCore run.objects.cores _ are.cores (record { name = knows.0; core = new_core_fields (regions_of set) [] book fits.0; rungs = new_core_rung set book fits.1 });
+          cores = All-push IsFieldNamedCore run.objects.cores _ are.cores (record { name = knows.0; core = new_core_fields (regions_of set) [] book (omega (arith, few)); rungs = new_core_rung set book fits });
           images = are.images;
         };
         events = one (event.Offline name) (((knows.0, tt), tt));

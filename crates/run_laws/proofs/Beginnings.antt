@@ -14,8 +14,8 @@ use Rattle.crash_recover.specs.declared.core_answers.Start.{Start}
 use Rattle.crash_recover.specs.Cores.{CoreState, IsKeptCore}
 use Rattle.crash_recover.specs.CoreBoots.{boot_of}
 use Rattle.crash_recover.specs.CoreRecoveries.{recovery_of}
-use Rattle.core_laws.specs.Beginnings.{BeginsLife, begins_life}
-use Rattle.core_laws.proofs.Beginnings.{boot_begins, recovery_begins, reopened_empty}
+use Rattle.core_laws.specs.Beginnings.{BeginsLife, ReopensNext, begins_life}
+use Rattle.core_laws.proofs.Beginnings.{boot_begins, recovery_begins, recovery_reopens, reopened_empty}
 use Rattle.link_commands.specs.declared.acts.ManagerAct.TheVariants as manager
 use Rattle.link_commands.specs.declared.acts.NamedAct.TheVariants as under
 use Rattle.link_commands.specs.LinkCommands.{link_effect}
@@ -74,3 +74,9 @@ module _ (answer : ImageAnswer) (run : RunState) (name : List ℕ) (place : ℕ)
       subst (λ (found : Option CoreState). IsSomeAnd found (BeginsLife (on.core.life.incarnation + 1))) (sym (recovery_leaves answer run name place on at))
       (recovery_begins on.core (found_image run.objects.images answer (booted_image on.name on.core))
       (item_at (λ (named : NamedCoreState). IsKeptCore named.core) run.objects.cores place on at.found are) did begins is)
+
+  pub recovery_reopens_in_run : (did : Start) → begins_life did ≡ true → (recovery_of on.core (found_image run.objects.images answer (booted_image on.name on.core))).answer ≡ Ok did
+      → IsSomeAnd (core_at (effect_of answer run (command.Recover name)).run place) (λ (left : CoreState). ReopensNext on.core.bench left.bench)
+  recovery_reopens_in_run did begins is =
+      subst (λ (found : Option CoreState). IsSomeAnd found (λ (left : CoreState). ReopensNext on.core.bench left.bench)) (sym (recovery_leaves answer run name place on at))
+      (recovery_reopens on.core (found_image run.objects.images answer (booted_image on.name on.core)) did begins is)

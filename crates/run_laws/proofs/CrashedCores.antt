@@ -1,7 +1,7 @@
--- What is done under the name of a crashed core: until it is recovered nothing is handed over.
-use Rattle.std.proofs.Common.{◌≡◌, ◌≢◌, ℕ, ◌==◌, Bool, false, cond, List, Option, Some, None, IfSome, refl, sym, ap, subst, ◌∙◌}
-use Rattle.std.specs.Option.{IsSomeAnd}
-use Rattle.std.proofs.lemmas.Bool.{cond_both}
+-- What commands leave of a crashed core: until it is recovered nothing is handed over.
+use Rattle.std.proofs.Common.{◌≡◌, ◌≢◌, ℕ, ◌==◌, Bool, false, cond, List, Option, Some, None, IfSome, refl, sym, ap, subst, ◌∙◌, slice_get, slice_set}
+use Rattle.std.specs.Option.{IsSomeAnd, option_map}
+use Rattle.std.proofs.lemmas.Bool.{cond_both, eqb-true}
 use Rattle.rp_io.specs.Images.{ImageAnswer}
 use Rattle.rp_base.specs.declared.kinds.LifeState.{LifeState}
 use Rattle.rp_base.specs.declared.kinds.LifeState.TheVariants.{Crashed}
@@ -9,7 +9,11 @@ use Rattle.crash_recover.specs.CoreActs.{act_on_core}
 use Rattle.proc_state.specs.declared.answers.LifeFault.TheVariants as life_fault
 use Rattle.proc_state.specs.declared.answers.Power.{Power}
 use Rattle.proc_state.specs.Lives.{Outcome, boot_to, crash_as, handover_to, is_up, leave_to, line_of, most, refusal_of, with_user}
+use Rattle.script_lang.specs.declared.commands.Command.{Command}
+use Rattle.script_lang.specs.declared.recipes.RecipeLine.{RecipeLine}
+use Rattle.script_lang.specs.Runnable.{IsRunnable}
 use Rattle.link_bench.specs.declared.acts.LinkAct.{LinkAct}
+use Rattle.link_bench.specs.Acts.{IsFitAct}
 use Rattle.link_bench.specs.Benches.{BenchState, link_in}
 use Rattle.crash_recover.specs.Cores.{CoreState}
 use Rattle.crash_recover.specs.CoreBoots.{boot_as, boot_of, handover_as, handover_of}
@@ -23,10 +27,11 @@ use Rattle.core_laws.proofs.LinkMoves.{comes_none}
 use Rattle.channel_bus.specs.Sides.{side_meaning}
 use Rattle.journal.specs.declared.events.Event.TheVariants as event
 use Rattle.link_commands.specs.declared.acts.CoreAct.TheVariants as act
+use Rattle.link_commands.specs.declared.acts.Line.{Line}
+use Rattle.link_commands.specs.declared.acts.Line.TheVariants as line
 use Rattle.link_commands.specs.declared.acts.NamedAct.{NamedAct}
 use Rattle.link_commands.specs.declared.acts.NamedAct.TheVariants as under
 use Rattle.link_commands.specs.declared.acts.StartAct.TheVariants as starts
-use Rattle.link_commands.specs.Acts.{IsFitNamed}
 use Rattle.command_run.specs.CoreCommands.{core_effect}
 use Rattle.command_run.specs.CoreDrives.{drive_effect, drive_steps}
 use Rattle.command_run.specs.CoreEffects.{CoreEffect, core_tells}
@@ -34,12 +39,15 @@ use Rattle.command_run.specs.CoreLinks.{core_link_effect}
 use Rattle.command_run.specs.CoreLives.{found_image, may_step}
 use Rattle.command_run.specs.NamedCores.{NamedCoreState}
 use Rattle.command_run.specs.NamedImages.{ImageState}
-use Rattle.command_run.specs.Runs.{RunEffect, RunState, name_effect}
-use Rattle.run_laws.specs.CrashedCores.{LinkStaysClosed, StaysCrashed}
-use Rattle.run_laws.specs.Starts.{IsCoreAt, core_at}
-use Rattle.run_laws.proofs.CommandWalks.{core_acts}
+use Rattle.command_run.specs.Runs.{RunEffect, RunState, core_place, effect_of}
+use Rattle.run_laws.specs.CrashedCores.{LinkStaysClosed, RecoversOther, StaysCrashed}
+use Rattle.run_laws.specs.Starts.{core_at}
+use Rattle.run_laws.proofs.CommandWalks.{ActsOnCore, CommandOutcome, MakesCore, outcome}
 use Rattle.run_laws.proofs.CoreActWalks.{ActOutcome, AddsDriver, AddsRegion, Crashes, Detaches, Drives, LinkActs, ShutsDown, Starts, Switches, act_outcome}
-use Rattle.run_laws.proofs.StartsInRuns.{core_behind}
+use Rattle.run_laws.proofs.CoreWalks.{FitsNamed}
+use Rattle.run_laws.proofs.Items.{get_changed, get_front}
+use Rattle.run_laws.proofs.RunWalks.{FitsLine}
+use Rattle.run_laws.proofs.RunsReached.{line_fits}
 
 -- a link that is closed
 abbrev Shut : BenchState → Type 0
@@ -104,7 +112,7 @@ module _ (core : CoreState) (crashed : core.life.state ≡ Crashed) (reached : I
 
   -- ---- the link
 
-  acted : (name : List ℕ) (steps : ℕ) (asked : LinkAct (List ℕ)) (found : Option BenchState) → core.bench ≡ found → IsFitNamed (under.Link asked) → StaysCrashed core (core_link_effect name core steps asked found).core
+  acted : (name : List ℕ) (steps : ℕ) (asked : LinkAct (List ℕ)) (found : Option BenchState) → core.bench ≡ found → IsFitAct asked → StaysCrashed core (core_link_effect name core steps asked found).core
   unfolding core_link_effect
   acted name steps asked None is fits = unchanged
   acted name steps asked (Some bench) is fits = record {
@@ -118,7 +126,7 @@ module _ (core : CoreState) (crashed : core.life.state ≡ Crashed) (reached : I
 
 module _ (images : List ImageState) (answer : ImageAnswer) (is_quiet : Bool) (on : NamedCoreState) (steps : ℕ) (crashed : on.core.life.state ≡ Crashed) (reached : IsReachedCore on.core) (shut : IfSome on.core.bench Shut) where
   -- whatever the outcome of an act is that is no recovery
-  outcome_crashed : {wanted : NamedAct (List ℕ)} {effect : CoreEffect} → ActOutcome images answer is_quiet on steps wanted effect → IsFitNamed wanted → wanted ≢ under.Core (act.Start starts.Recover) → StaysCrashed on.core effect.core
+  outcome_crashed : {wanted : NamedAct (List ℕ)} {effect : CoreEffect} → ActOutcome images answer is_quiet on steps wanted effect → FitsNamed IsFitAct wanted → wanted ≢ under.Core (act.Start starts.Recover) → StaysCrashed on.core effect.core
   outcome_crashed (LinkActs asked) fits other = acted on.core crashed reached shut on.name steps asked on.core.bench refl fits
   outcome_crashed (AddsRegion region clear) fits other = stays on.core crashed reached shut _ crashed refl
   outcome_crashed (AddsDriver channel kind) fits other = stays on.core crashed reached shut _ crashed refl
@@ -132,12 +140,26 @@ module _ (images : List ImageState) (answer : ImageAnswer) (is_quiet : Bool) (on
   outcome_crashed (Switches set) fits other = stays on.core crashed reached shut _ crashed refl
   outcome_crashed came fits other = unchanged on.core crashed reached shut
 
--- what is done under the name of a crashed core of a run
-pub stays_crashed : (answer : ImageAnswer) (run : RunState) (name : List ℕ) (place : ℕ) (on : NamedCoreState) (wanted : NamedAct (List ℕ)) → IsCoreAt run name place on → IsFitNamed wanted
-    → IsReachedCore on.core → on.core.life.state ≡ Crashed → IfSome on.core.bench (λ (bench : BenchState). (link_in bench).era.is_live ≡ false) → wanted ≢ under.Core (act.Start starts.Recover)
-    → IsSomeAnd (core_at (name_effect answer run name wanted).run place) (StaysCrashed on.core)
-stays_crashed answer run name place on wanted at fits reached crashed shut other =
-    subst (λ (found : Option CoreState). IsSomeAnd found (StaysCrashed on.core))
-    (sym (ap (λ (left : RunEffect). core_at left.run place) (core_acts answer run name wanted place on at)
-    ∙ core_behind run name place on (core_effect run.objects.images answer run.objects.is_quiet on run.steps wanted) at))
-    (outcome_crashed run.objects.images answer run.objects.is_quiet on run.steps crashed reached shut (act_outcome run.objects.images answer run.objects.is_quiet on run.steps wanted) fits other)
+-- ---- commands
+
+module _ (answer : ImageAnswer) (run : RunState) (place : ℕ) (on : NamedCoreState) (found : slice_get run.objects.cores place ≡ Some on)
+    (reached : IsReachedCore on.core) (crashed : on.core.life.state ≡ Crashed) (shut : IfSome on.core.bench Shut) where
+  -- a core at the place stays so, if it is this one
+  by_cores : (cores : List NamedCoreState) (now : NamedCoreState) → slice_get cores place ≡ Some now → StaysCrashed on.core now.core
+      → IsSomeAnd (option_map (λ (named : NamedCoreState). named.core) (slice_get cores place)) (StaysCrashed on.core)
+  by_cores cores now there is = subst (λ (item : Option NamedCoreState). IsSomeAnd (option_map (λ (named : NamedCoreState). named.core) item) (StaysCrashed on.core)) (sym there) is
+
+  -- whatever the outcome of a command is that recovers no core but another one
+  outcome_stays : {done : Line (List RecipeLine) (List ℕ)} {effect : RunEffect} → CommandOutcome answer run done effect → FitsLine IsFitAct done
+      → ((name : List ℕ) → done ≡ line.On name (under.Core (act.Start starts.Recover)) → core_place run.objects.cores name ≢ Some place) → IsSomeAnd (core_at effect.run place) (StaysCrashed on.core)
+  outcome_stays (MakesCore name set book none) fits other = by_cores _ on (get_front run.objects.cores _ place on found) (unchanged on.core crashed reached shut)
+  outcome_stays (ActsOnCore name wanted at core is) fits other =
+      let now : NamedCoreState → NamedCoreState = λ named. record named { core = (core_effect run.objects.images answer run.objects.is_quiet named run.steps wanted).core } in
+      by_cores (slice_set run.objects.cores at (now core)) (cond (at == place) (now on) on) (get_changed now run.objects.cores at place core on is.found found)
+      (cond_both (at == place) (now on) on (λ (after : NamedCoreState). StaysCrashed on.core after.core)
+      (λ same. outcome_crashed run.objects.images answer run.objects.is_quiet on run.steps crashed reached shut (act_outcome run.objects.images answer run.objects.is_quiet on run.steps wanted) fits
+      (λ recovers. other name (ap (line.On name) recovers) (is.placed ∙ ap Some (eqb-true at place same)))) (λ _. unchanged on.core crashed reached shut))
+  outcome_stays came fits other = by_cores run.objects.cores on found (unchanged on.core crashed reached shut)
+
+  pub stays_crashed : (asked : Command) → IsRunnable asked → RecoversOther run place asked → IsSomeAnd (core_at (effect_of answer run asked).run place) (StaysCrashed on.core)
+  stays_crashed asked runs other = outcome_stays (outcome answer run asked) (line_fits asked runs) other

@@ -4,6 +4,7 @@ pub mod CoreActWalks
 pub mod CoreWalks
 pub mod CommandWalks
 pub mod RunWalks
+pub mod RunnableLines
 pub mod RunsReached
 pub mod CoresKept
 pub mod CoresReady

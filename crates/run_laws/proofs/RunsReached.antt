@@ -1,5 +1,5 @@
 -- What a run leaves of its links and its cores is reached, kept and ready.
-use Rattle.std.proofs.Common.{◌≡◌, ℕ, ◌+◌, ◌==◌, Bool, false, List, [], ◌∷◌, Option, Some, None, IfSome, refl, arith}
+use Rattle.std.proofs.Common.{◌≡◌, ℕ, ◌+◌, ◌==◌, Bool, false, List, [], ◌∷◌, Option, Some, None, IfSome, refl}
 use Rattle.std.specs.Prelude.{Contains}
 use Rattle.std.proofs.lemmas.Bool.{cond_both}
 use Rattle.std.proofs.lemmas.List.Elements.{All-contains, All-nil}
@@ -12,7 +12,6 @@ use Rattle.lane_model.specs.Recoveries.{link_close_refusal, link_reopen_refusal}
 use Rattle.lane_model.specs.Soundness.{SoundLink}
 use Rattle.channel_bus.specs.Sides.{EndState}
 use Rattle.script_lang.specs.declared.commands.Command.{Command}
-use Rattle.script_lang.specs.declared.commands.Command.TheVariants as command
 use Rattle.script_lang.specs.Runnable.{AreRunnable, IsRunnable}
 use Rattle.link_bench.specs.Acts.{IsFitAct}
 use Rattle.link_bench.specs.Benches.{BenchState, link_in, new_bench_of}
@@ -40,53 +39,13 @@ use Rattle.run_laws.specs.Kept.{AreKept, AreReady}
 use Rattle.run_laws.specs.Reached.{AreReached, HandsInOrder}
 use Rattle.run_laws.proofs.CoreWalks.{FitsNamed}
 use Rattle.run_laws.proofs.CoresReady.{IsSoundCore, sound_cores}
+use Rattle.run_laws.proofs.RunnableLines.{runnable_fits, runnable_line}
 use Rattle.run_laws.proofs.RunWalks.{AreAll, AreFitting, FitsLine, KeepRuns, effect_keeps, runs_keep}
 
 -- ---- acts of commands that can be run
 
 pub line_fits : (wanted : Command) → IsRunnable wanted → FitsLine IsFitAct (line_of wanted)
-line_fits (command.Image name lines) runs = tt
-line_fits (command.Quiet set) runs = tt
-line_fits (command.Dump name image) runs = tt
-line_fits (command.Link name to_host to_remote book) runs = tt
-line_fits (command.NsLink name to_host to_remote book) runs = tt
-line_fits (command.Core name regions book) runs = tt
-line_fits (command.Caller name end) runs = tt
-line_fits (command.Send name caller source destination payload) runs = (omega (arith, runs.0), tt)
-line_fits (command.Raw name caller message) runs = (omega (arith, runs.0), runs.1)
-line_fits (command.Take name caller) runs = (omega (arith, runs), tt)
-line_fits (command.Give name caller number) runs = (omega (arith, runs.0), tt)
-line_fits (command.Bind name caller address) runs = (omega (arith, runs.0), tt)
-line_fits (command.Unbind name caller address) runs = (omega (arith, runs.0), tt)
-line_fits (command.BeginSend name caller source destination payload) runs = (omega (arith, runs.0), tt)
-line_fits (command.BeginRaw name caller message) runs = (omega (arith, runs.0), runs.1)
-line_fits (command.BeginTake name caller) runs = (omega (arith, runs), tt)
-line_fits (command.BeginGive name caller number) runs = (omega (arith, runs.0), tt)
-line_fits (command.BeginBind name caller address) runs = (omega (arith, runs.0), tt)
-line_fits (command.BeginUnbind name caller address) runs = (omega (arith, runs.0), tt)
-line_fits (command.Step name caller count) runs = (omega (arith, runs.0), omega (arith, runs.1.0, runs.1.1))
-line_fits (command.Finish name caller) runs = (omega (arith, runs), omega arith)
-line_fits (command.Pump name sender receiver count) runs = (omega (arith, runs.0), omega (arith, runs.1), runs.2.1)
-line_fits (command.Reclaim name caller) runs = omega (arith, runs)
-line_fits (command.Close name) runs = tt
-line_fits (command.Reopen name) runs = tt
-line_fits (command.Books name) runs = tt
-line_fits (command.Ring name lane) runs = tt
-line_fits (command.Channels name) runs = tt
-line_fits (command.Region name kind da pa len) runs = tt
-line_fits (command.Driver name channel kind) runs = tt
-line_fits (command.Boot name image) runs = tt
-line_fits (command.Handover name image) runs = tt
-line_fits (command.Shutdown name) runs = tt
-line_fits (command.Detach name) runs = tt
-line_fits (command.State name) runs = tt
-line_fits (command.Table name) runs = tt
-line_fits (command.Trace name trace) runs = tt
-line_fits (command.Mem name da len) runs = tt
-line_fits (command.Crash name kind) runs = tt
-line_fits (command.Recover name) runs = tt
-line_fits (command.Recovery name set) runs = tt
-line_fits (command.Drive name count) runs = tt
+line_fits wanted runs = runnable_fits (line_of wanted) (runnable_line wanted runs)
 
 pub lines_fit : (commands : List Command) → AreRunnable commands → AreFitting IsFitAct commands
 lines_fit [] runs = tt

@@ -15,13 +15,7 @@ ghost use Rattle.crash_recover.specs.CoreRecoveries.{recovery_of};
 ghost use Rattle.command_run.specs.CoreLives.{booted_image, found_image, may_step};
 ghost use Rattle.core_laws.specs.BenchMoves.{IsReachedBench};
 ghost use Rattle.core_laws.specs.BenchMoves.{IsReachedCore};
-ghost use Rattle.link_commands.specs.declared.acts.CoreAct.TheVariants as core;
-ghost use Rattle.link_commands.specs.declared.acts.StartAct.TheVariants as start;
-ghost use Rattle.link_commands.specs.declared.acts.NamedAct.{NamedAct};
-ghost use Rattle.link_commands.specs.declared.acts.NamedAct.TheVariants as under;
-ghost use Rattle.link_commands.specs.Acts.{IsFitNamed};
-ghost use Rattle.command_run.specs.Runs.{name_effect};
-ghost use Rattle.run_laws.specs.CrashedCores.{StaysCrashed};
+ghost use Rattle.run_laws.specs.CrashedCores.{RecoversOther, StaysCrashed};
 ghost use Rattle.run_laws.specs.ClosedLinks.{LeavesClosed, ReopensOther};
 ghost use Rattle.run_laws.specs.Starts.{IsCoreAt, core_at, state_at};
 ghost use Rattle.script_lang.specs.Runnable.{AreRunnable, IsRunnable};
@@ -29,8 +23,9 @@ ghost use Rattle.lane_model.specs.Soundness.{SoundLink};
 ghost use Rattle.link_bench.specs.Benches.{BenchState, link_in};
 ghost use Rattle.run_laws.specs.Kept.{AreKept, AreReady, HaveSoundRegions};
 ghost use Rattle.run_laws.specs.Reopenings.{IsLeftByReopen, IsLinkAt};
-ghost use Rattle.core_laws.specs.Beginnings.{BeginsLife, begins_life};
+ghost use Rattle.core_laws.specs.Beginnings.{BeginsLife, ReopensNext, begins_life};
 ghost use Rattle.crash_recover.specs.declared.core_answers.Start.{Start};
+ghost use Rattle.crash_recover.specs.Cores.{CoreState};
 ghost use Rattle.command_run.specs.NamedCores.{NamedCoreState};
 ghost use Rattle.link_commands.specs.NamedLinks.{NamedLink};
 ghost use Rattle.run_laws.specs.Reached.{AreReached, HandsInOrder};
@@ -114,7 +109,8 @@ pub fn links_reopen_next()
 {}
 
 /// Where a boot, which may be an attach, or a recovery of the core of a name in a run begins a life, it leaves at its place a core in the next
-/// incarnation of its life, whose link, if it has one, is in that incarnation too, live and empty on both lanes.
+/// incarnation of its life, whose link, if it has one, is in that incarnation too, live and empty on both lanes. A recovery leaves a link exactly where
+/// there was one, in the incarnation behind that one's.
 pub fn lives_begin_next()
     ensures boot { (answer : ImageAnswer) (run : RunState) (name : List ℕ) (place : ℕ) (on : NamedCoreState) → IsCoreAt run name place on → (image : List ℕ) (did : Start)
         → begins_life did ≡ true → (boot_of on.core image (found_image run.objects.images answer image)).answer ≡ Ok did
@@ -122,6 +118,9 @@ pub fn lives_begin_next()
     ensures recovery { (answer : ImageAnswer) (run : RunState) (name : List ℕ) (place : ℕ) (on : NamedCoreState) → IsCoreAt run name place on → AreKept run.objects → (did : Start)
         → begins_life did ≡ true → (recovery_of on.core (found_image run.objects.images answer (booted_image on.name on.core))).answer ≡ Ok did
         → IsSomeAnd (core_at (effect_of answer run (command.Recover name)).run place) (BeginsLife (on.core.life.incarnation + 1)) }
+    ensures reopening { (answer : ImageAnswer) (run : RunState) (name : List ℕ) (place : ℕ) (on : NamedCoreState) → IsCoreAt run name place on → (did : Start)
+        → begins_life did ≡ true → (recovery_of on.core (found_image run.objects.images answer (booted_image on.name on.core))).answer ≡ Ok did
+        → IsSomeAnd (core_at (effect_of answer run (command.Recover name)).run place) (λ (left : CoreState). ReopensNext on.core.bench left.bench) }
 {}
 
 /// From a close of a link on, no command of a script but a reopening of that link hands anything over on it or opens it: the link at a place of a run
@@ -132,12 +131,13 @@ pub fn closed_hands_none()
         → LeavesClosed on.bench (effect_of answer run asked).run place }
 {}
 
-/// And from a crash of a core on, nothing that is done under its name but a recovery hands anything over on its link or opens it: the core stays crashed,
-/// and its link closed, as it is while a core isn't up.
+/// And from a crash of a core on, no command of a script but a recovery of that core hands anything over on its link or opens it: the core at a place of
+/// a run stays crashed behind the command, and its link closed, as it is while a core isn't up, with nothing more handed over on either lane.
 pub fn crashed_hands_none()
-    ensures { (answer : ImageAnswer) (run : RunState) (name : List ℕ) (place : ℕ) (on : NamedCoreState) (wanted : NamedAct (List ℕ)) → IsCoreAt run name place on
-        → IsFitNamed wanted → IsReachedCore on.core → on.core.life.state ≡ state.Crashed → IfSome on.core.bench (λ (bench : BenchState). (link_in bench).era.is_live ≡ false)
-        → wanted ≢ under.Core (core.Start start.Recover) → IsSomeAnd (core_at (name_effect answer run name wanted).run place) (StaysCrashed on.core) }
+    ensures { (answer : ImageAnswer) (run : RunState) (asked : Command) (place : ℕ) (on : NamedCoreState) → IsRunnable asked
+        → slice_get run.objects.cores place ≡ Some on → IsReachedCore on.core → on.core.life.state ≡ state.Crashed
+        → IfSome on.core.bench (λ (bench : BenchState). (link_in bench).era.is_live ≡ false) → RecoversOther run place asked
+        → IsSomeAnd (core_at (effect_of answer run asked).run place) (StaysCrashed on.core) }
 {}
 
 /// After each list of commands the link of each core has the core's own callers in use, 0 at the host and 1 at the remote, no turn of it is the

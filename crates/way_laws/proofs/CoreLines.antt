@@ -7,7 +7,6 @@ use Rattle.rp_io.specs.declared.faults.NoImage.TheVariants as no_image
 use Rattle.fw_load.specs.Faults.{load_fault_index, load_fault_number}
 use Rattle.proc_state.specs.declared.answers.LifeFault.{LifeFault}
 use Rattle.proc_state.specs.declared.answers.LifeFault.TheVariants as life
-use Rattle.memory_pool.specs.declared.regions.Region.{Region}
 use Rattle.journal.specs.declared.events.Event.{Event}
 use Rattle.journal.specs.declared.events.Event.TheVariants as event
 use Rattle.link_bench.specs.Benches.{BenchState}
@@ -28,7 +27,6 @@ use Rattle.crash_recover.specs.CoreCrashes.{report_of}
 use Rattle.crash_recover.specs.CoreLeaves.{detach_of, shutdown_of}
 use Rattle.crash_recover.specs.CoreRings.{core_ring}
 use Rattle.crash_recover.specs.Cores.{CoreState, LoadState, core_memory}
-use Rattle.link_commands.specs.declared.acts.CoreAct.TheVariants as core
 use Rattle.link_commands.specs.declared.acts.CoreView.{CoreView}
 use Rattle.link_commands.specs.declared.acts.CoreView.TheVariants as shows
 use Rattle.link_commands.specs.declared.acts.LinkView.{LinkView}
@@ -44,7 +42,8 @@ use Rattle.command_run.specs.NamedImages.{ImageState}
 use Rattle.run_laws.proofs.CoreActWalks.{ActOutcome, Crashes, Detaches, Drives, LinkActs, RefusesDriver, RefusesRegion, ShowsCore, ShowsLink, ShutsDown, Starts, act_outcome}
 use Rattle.way_laws.specs.CommandTakes.{may_take}
 use Rattle.way_laws.specs.WordedTakes.{is_take_line}
-use Rattle.way_laws.proofs.LinkLines.{HaveNoTakes, each_none, reopen_none, ring_none, view_none}
+use Rattle.way_laws.proofs.LinkLines.{each_none, reopen_none, ring_none, view_none}
+use Rattle.way_laws.proofs.TakeLines.{HaveNoTakes}
 
 module _ (name : List ℕ) where
   -- ---- faults

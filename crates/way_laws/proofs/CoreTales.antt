@@ -1,5 +1,6 @@
 -- What is done under the name of a core keeps the tale of its link.
 use Rattle.std.proofs.Common.{◌≡◌, ℕ, [], Bool, true, false, cond, List, Option, Some, None, IfSome, option_map, Result, Ok, Err, refl, sym, subst}
+use Rattle.std.specs.Option.{IsSomeAnd}
 use Rattle.std.proofs.lemmas.Bool.{cond_both}
 use Rattle.rp_io.specs.Images.{ImageAnswer}
 use Rattle.rp_base.specs.declared.kinds.End.{End}
@@ -57,14 +58,15 @@ use Rattle.run_laws.proofs.CoreActWalks.{ActOutcome, Crashes, Detaches, Drives, 
 use Rattle.run_laws.proofs.CoreWalks.{FitsNamed}
 use Rattle.run_laws.proofs.CoresReady.{IsSoundCore, may_drive, sound_cores}
 use Rattle.run_laws.proofs.ScriptDrives.{drive_as, drive_while_up}
-use Rattle.act_laws.specs.Accounts.{Account}
+use Rattle.act_laws.specs.Accounts.{Account, IsAccount}
+use Rattle.way_laws.specs.WordedTakes.{ComesFromOpening}
 use Rattle.way_laws.specs.CoreAccounts.{begun_account, core_account_after, core_act_deeds, deed_account, drive_account, left_account, life_account, ready_if, recovery_account, started_account, steps_account, unless_some}
 use Rattle.act_laws.specs.CoreDeeds.{drive_deeds}
 use Rattle.act_laws.specs.Deeds.{Deeds, no_deeds}
 use Rattle.act_laws.proofs.CalmDeeds.{IsCalm, Open, Silent, act_open, drive_calm, ready_open, reported_none}
 use Rattle.act_laws.proofs.CoreLands.{LandsIf, drive_lands, ready_lands, report_lands}
 use Rattle.act_laws.proofs.ReachedActs.{deeds_land}
-use Rattle.act_laws.proofs.Tales.{IsTale, deeds_kept, new_tale}
+use Rattle.act_laws.proofs.Tales.{IsTale, account_is, deeds_kept, new_tale}
 
 -- the link that a core has and its account, which both are there or neither is
 abbrev pub TaleIf : End → Option BenchState → Option Account → Type 0
@@ -72,6 +74,18 @@ TaleIf end None None = Unit {0}
 TaleIf end None (Some account) = ⊥
 TaleIf end (Some bench) None = ⊥
 TaleIf end (Some bench) (Some account) = IsTale end bench account
+
+-- what a tale says of its account
+pub told_if : (end : End) (found : Option BenchState) (account : Option Account) → TaleIf end found account → IfSome found (λ (bench : BenchState). IsSomeAnd account (IsAccount end (link_in bench)))
+told_if end None account is = tt
+told_if end (Some bench) None is = absurd is
+told_if end (Some bench) (Some account) is = account_is end bench account is
+
+-- the link comes by the way of its account
+pub come_if : (end : End) (found : Option BenchState) (account : Option Account) → TaleIf end found account → IfSome found (λ (bench : BenchState). ComesFromOpening (link_in bench))
+come_if end None account is = tt
+come_if end (Some bench) None is = absurd is
+come_if end (Some bench) (Some account) is = record { way = account.way; is_way = is.way; leads = is.leads }
 
 deeds_if : (end : End) (found : Option BenchState) (account : Option Account) (deeds : Deeds) (now : Option BenchState) → TaleIf end found account → IsCalm end deeds → LandsIf found deeds now → TaleIf end now (deed_account end found deeds account)
 deeds_if end None None deeds None is calm lands = tt

@@ -44,8 +44,8 @@ use Rattle.run_laws.proofs.ScriptDrives.{drive_as, drive_while_up, last_is}
 use Rattle.act_laws.specs.CoreDeeds.{drive_deeds, driven_takes}
 use Rattle.act_laws.specs.Deeds.{reach_takes}
 use Rattle.way_laws.specs.CoreAccounts.{drive_takes, steps_takes}
-use Rattle.way_laws.specs.TakersLines.{drive_lines, is_line_of, lines_for, lines_of, taker_of, told_to}
-use Rattle.way_laws.specs.WordedTakes.{ComesFromOpening, IsWordedTake}
+use Rattle.way_laws.specs.TakersLines.{drive_lines, is_line_of, lines_for, lines_of, actor_takes}
+use Rattle.way_laws.specs.WordedTakes.{ComesFromOpening, IsWordedTake, taker_of}
 use Rattle.way_laws.proofs.DrivenTakes.{drive_told}
 use Rattle.way_laws.proofs.DrivenWords.{DrivenTakesOne, drive_comes, drive_once}
 use Rattle.way_laws.proofs.Worded.{once_worded}
@@ -64,12 +64,12 @@ took_taker name who number message verdict.ServiceMalformed = refl
 abbrev NoneTold : (End → List Handing) → Type 0
 NoneTold takes = (end : End) → takes end ≡ []
 
-none_to : (takes : End → List Handing) (caller : ℕ) → NoneTold takes → told_to takes caller ≡ []
+none_to : (takes : End → List Handing) (caller : ℕ) → NoneTold takes → actor_takes takes caller ≡ []
 none_to takes zero none = none side.Host
 none_to takes (suc zero) none = none side.Remote
 none_to takes (suc (suc more)) none = refl
 
-both_to : (takes later : End → List Handing) (caller : ℕ) → told_to (λ end. takes end ++ later end) caller ≡ told_to takes caller ++ told_to later caller
+both_to : (takes later : End → List Handing) (caller : ℕ) → actor_takes (λ end. takes end ++ later end) caller ≡ actor_takes takes caller ++ actor_takes later caller
 both_to takes later zero = refl
 both_to takes later (suc zero) = refl
 both_to takes later (suc (suc more)) = refl
@@ -99,13 +99,13 @@ module _ (name : List ℕ) (caller : ℕ) where
   -- events that tell no take, beside takes of which none is told
   none_lines : (is_quiet : Bool) (takes : End → List Handing) (events : List Event) → lines_of caller events ≡ [] → NoneTold takes → lines_of caller events ≡ drive_lines is_quiet name caller takes
   none_lines is_quiet takes events empty none =
-      empty ∙ sym (cond_both is_quiet [] (lines_for name caller (told_to takes caller)) (λ (lines : List Event). lines ≡ []) (λ _. refl) (λ _. ap (lines_for name caller) (none_to takes caller none)))
+      empty ∙ sym (cond_both is_quiet [] (lines_for name caller (actor_takes takes caller)) (λ (lines : List Event). lines ≡ []) (λ _. refl) (λ _. ap (lines_for name caller) (none_to takes caller none)))
 
   both_lines : (is_quiet : Bool) (takes later : End → List Handing) (first rest : List Event) → lines_of caller first ≡ drive_lines is_quiet name caller takes → lines_of caller rest ≡ drive_lines is_quiet name caller later
       → lines_of caller (first ++ rest) ≡ drive_lines is_quiet name caller (λ end. takes end ++ later end)
   both_lines true takes later first rest one two = filter-append (is_line_of caller) first rest ∙ ap (λ (lines : List Event). lines ++ lines_of caller rest) one ∙ two
   both_lines false takes later first rest one two =
-      filter-append (is_line_of caller) first rest ∙ (λ i. one i ++ two i) ∙ sym (map-append _ (told_to takes caller) (told_to later caller)) ∙ ap (lines_for name caller) (sym (both_to takes later caller))
+      filter-append (is_line_of caller) first rest ∙ (λ i. one i ++ two i) ∙ sym (map-append _ (actor_takes takes caller) (actor_takes later caller)) ∙ ap (lines_for name caller) (sym (both_to takes later caller))
 
   -- ---- the end of a call
 
@@ -119,18 +119,18 @@ module _ (name : List ℕ) (caller : ℕ) where
   one_line line who is = ap (λ (found : Option ℕ). cond (unwrap_or (option_map (λ taker. taker == caller) found) false) (line ∷ []) []) is
 
   -- what its taker is told, where one of the actors took one handing
-  told_host : (takes : End → List Handing) (handing : Handing) → takes side.Host ≡ handing ∷ [] → takes side.Remote ≡ [] → told_to takes caller ≡ cond (0 == caller) (handing ∷ []) []
+  told_host : (takes : End → List Handing) (handing : Handing) → takes side.Host ≡ handing ∷ [] → takes side.Remote ≡ [] → actor_takes takes caller ≡ cond (0 == caller) (handing ∷ []) []
   told_host takes handing one none = by caller
     where
-      by : (number : ℕ) → told_to takes number ≡ cond (0 == number) (handing ∷ []) []
+      by : (number : ℕ) → actor_takes takes number ≡ cond (0 == number) (handing ∷ []) []
       by zero = one
       by (suc zero) = none
       by (suc (suc more)) = sym (ap (λ (same : Bool). cond same (handing ∷ []) []) (ne_eqb 0 (suc (suc more)) (λ equal. absurd (omega (arith, equal)))))
 
-  told_remote : (takes : End → List Handing) (handing : Handing) → takes side.Remote ≡ handing ∷ [] → takes side.Host ≡ [] → told_to takes caller ≡ cond (1 == caller) (handing ∷ []) []
+  told_remote : (takes : End → List Handing) (handing : Handing) → takes side.Remote ≡ handing ∷ [] → takes side.Host ≡ [] → actor_takes takes caller ≡ cond (1 == caller) (handing ∷ []) []
   told_remote takes handing one none = by caller
     where
-      by : (number : ℕ) → told_to takes number ≡ cond (1 == number) (handing ∷ []) []
+      by : (number : ℕ) → actor_takes takes number ≡ cond (1 == number) (handing ∷ []) []
       by zero = none
       by (suc zero) = one
       by (suc (suc more)) = sym (ap (λ (same : Bool). cond same (handing ∷ []) []) (ne_eqb 1 (suc (suc more)) (λ equal. absurd (omega (arith, equal)))))
@@ -148,10 +148,10 @@ module _ (name : List ℕ) (caller : ℕ) where
   module _ (takes : End → List Handing) (bench : BenchState) (own : AreOwnUsed (link_in bench).callers) where
     -- the end of a call of this caller, against what its actor is told
     abbrev IsTold : ℕ → CallEnd → Type 0
-    IsTold who came = lines_of caller (end_event name (link_in bench) who came ∷ []) ≡ lines_for name caller (told_to takes caller)
+    IsTold who came = lines_of caller (end_event name (link_in bench) who came ∷ []) ≡ lines_for name caller (actor_takes takes caller)
 
     worded_told : (who number : ℕ) (judged : Verdict) (handing : Handing) → end_event name (link_in bench) who (ended.Took number judged) ≡ took_event name who handing.sent.number handing.sent.message handing.verdict
-        → told_to takes caller ≡ cond (who == caller) (handing ∷ []) [] → IsTold who (ended.Took number judged)
+        → actor_takes takes caller ≡ cond (who == caller) (handing ∷ []) [] → IsTold who (ended.Took number judged)
     worded_told who number judged handing line told =
         let taken = took_event name who handing.sent.number handing.sent.message handing.verdict in
         ap (λ (one : Event). lines_of caller (one ∷ [])) line ∙ one_line taken who (took_taker name who handing.sent.number handing.sent.message handing.verdict)

@@ -22,8 +22,8 @@ use Rattle.command_run.specs.Runs.{RunEffect, RunState, effect_of, run_of}
 use Rattle.command_run.specs.Stores.{Told}
 use Rattle.run_laws.proofs.CommandWalks.{ActsOnCore, ActsOnLink, CommandOutcome, outcome}
 use Rattle.way_laws.specs.CommandTakes.{AreTakesOfRun, IsTakeOfCore, IsTakeOfLink, core_takes}
-use Rattle.way_laws.specs.CoreAccounts.{done_on_core}
-use Rattle.way_laws.specs.RunAccounts.{done_at, named_takes}
+use Rattle.way_laws.specs.CoreAccounts.{core_act_at}
+use Rattle.way_laws.specs.RunAccounts.{link_act_at, named_takes}
 use Rattle.way_laws.specs.WordedTakes.{AreLinesAmong, AreLinesOfTakes, IsLineAmong, IsLineOfTake, TellNoTakes, is_take_line}
 use Rattle.way_laws.proofs.CoreLines.{core_none}
 use Rattle.way_laws.proofs.DoneAt.{core_done_on_it, done_on_it}
@@ -66,7 +66,7 @@ module _ (told : Told) (commands : List Command) (runs : AreRunnable commands) (
   abbrev IsOfRun : Event → Type 0
   IsOfRun event = IsTakeOfLink run done event ⊎ IsTakeOfCore run done event
 
-  drive_are : (place count : ℕ) (on : NamedCoreState) → slice_get run.objects.cores place ≡ Some on → done_on_core run place done ≡ Some (under.Core (core.Drive count))
+  drive_are : (place count : ℕ) (on : NamedCoreState) → slice_get run.objects.cores place ≡ Some on → core_act_at run place done ≡ Some (under.Core (core.Drive count))
       → AreLinesAmong (core_takes on run.steps (under.Core (core.Drive count))) on.name events
   unfolding core_effect core_act_effect
   drive_are place count on found does =
@@ -74,7 +74,7 @@ module _ (told : Told) (commands : List Command) (runs : AreRunnable commands) (
       (drive_up_among on.name run.objects.is_quiet on.core run.steps count (sound told commands runs answer asked may place on found) (cores_come told commands place on runs found))
 
   -- what is done under the name of a core
-  pub core_are : (place : ℕ) (wanted : NamedAct (List ℕ)) (on : NamedCoreState) → slice_get run.objects.cores place ≡ Some on → done_on_core run place done ≡ Some wanted
+  pub core_are : (place : ℕ) (wanted : NamedAct (List ℕ)) (on : NamedCoreState) → slice_get run.objects.cores place ≡ Some on → core_act_at run place done ≡ Some wanted
       → AreLinesAmong (core_takes on run.steps wanted) on.name events
   core_are place (under.Link act) on found does =
       lines_among (core_takes on run.steps (under.Link act)) on.name events (core_lines told commands runs answer asked may place act on found does)
@@ -84,13 +84,13 @@ module _ (told : Told) (commands : List Command) (runs : AreRunnable commands) (
       (subst TellNoTakes (sym (core_tells answer run place on found asked other does))
       (no_takes (core_effect run.objects.images answer run.objects.is_quiet on run.steps other).events (core_none run.objects.images answer run.objects.is_quiet on run.steps other refl)))
 
-  on_link : (place : ℕ) (wanted : NamedAct (List ℕ)) (on : NamedLink) → slice_get run.objects.links place ≡ Some on → done_at run place done ≡ Some wanted → AreTakesOfRun run done events
+  on_link : (place : ℕ) (wanted : NamedAct (List ℕ)) (on : NamedLink) → slice_get run.objects.links place ≡ Some on → link_act_at run place done ≡ Some wanted → AreTakesOfRun run done events
   on_link place wanted on found does =
       All-weaker (λ (event : Event). is_take_line event ≡ true → IsLineOfTake (named_takes on.bench run.steps wanted) on.name event) (λ (event : Event). is_take_line event ≡ true → IsOfRun event)
       (λ event of is. inl (record { place = place; on = on; wanted = wanted; has = found; does = does; worded = of is }))
       events (link_lines told commands runs answer asked may place wanted on found does)
 
-  on_core : (place : ℕ) (wanted : NamedAct (List ℕ)) (on : NamedCoreState) → slice_get run.objects.cores place ≡ Some on → done_on_core run place done ≡ Some wanted → AreTakesOfRun run done events
+  on_core : (place : ℕ) (wanted : NamedAct (List ℕ)) (on : NamedCoreState) → slice_get run.objects.cores place ≡ Some on → core_act_at run place done ≡ Some wanted → AreTakesOfRun run done events
   on_core place wanted on found does =
       All-weaker (λ (event : Event). is_take_line event ≡ true → IsLineAmong (core_takes on run.steps wanted) on.name event) (λ (event : Event). is_take_line event ≡ true → IsOfRun event)
       (λ event of is. inr (record { place = place; on = on; wanted = wanted; has = found; does = does; worded = of is }))
@@ -98,8 +98,8 @@ module _ (told : Told) (commands : List Command) (runs : AreRunnable commands) (
 
   -- whatever the outcome of the command is
   came_are : {now : Line (List RecipeLine) (List ℕ)} {effect : RunEffect} → CommandOutcome answer run now effect → done ≡ now → events ≡ effect.events → AreTakesOfRun run done events
-  came_are (ActsOnLink name wanted place on at) is tells = on_link place wanted on at.found (ap (done_at run place) is ∙ done_on_it run place name wanted on at)
-  came_are (ActsOnCore name wanted place on at) is tells = on_core place wanted on at.found (ap (done_on_core run place) is ∙ core_done_on_it run place name wanted on at)
+  came_are (ActsOnLink name wanted place on at) is tells = on_link place wanted on at.found (ap (link_act_at run place) is ∙ done_on_it run place name wanted on at)
+  came_are (ActsOnCore name wanted place on at) is tells = on_core place wanted on at.found (ap (core_act_at run place) is ∙ core_done_on_it run place name wanted on at)
   came_are came is tells = none_are IsOfRun events (subst TellNoTakes (sym tells) (tells_none came tt))
 
   pub every_line : AreTakesOfRun run done events

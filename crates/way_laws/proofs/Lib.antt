@@ -1,8 +1,9 @@
 pub mod DoneAt
 pub mod LinkTales
 pub mod Noted
-pub mod RunTales
+pub mod PlaceOutcomes
 pub mod CoreTales
+pub mod RunTales
 pub mod RunCoreTales
 pub mod CoreRungs
 pub mod RunCoreRungs

@@ -1,9 +1,8 @@
 -- What is done under the name of a script's link tells no line of a take but that of a handing which it tells.
-use Rattle.std.proofs.Common.{◌≡◌, ℕ, zero, suc, ◌+◌, ◌==◌, true, false, List, [], ◌∷◌, ◌++◌, Option, Some, None, map, refl, sym, ◌∙◌}
-use Rattle.std.specs.List.{AllByRecursion, list_all}
+use Rattle.std.proofs.Common.{◌≡◌, ℕ, zero, suc, ◌+◌, ◌==◌, false, List, [], ◌∷◌, ◌++◌, Option, Some, None, map, refl}
+use Rattle.std.specs.List.{list_all}
 use Rattle.std.specs.Prelude.{drop, take}
-use Rattle.std.proofs.lemmas.Bool.{cond_both, true≢false}
-use Rattle.std.proofs.lemmas.List.Elements.{All-from_recursion}
+use Rattle.std.proofs.lemmas.Bool.{cond_both}
 use Rattle.rp_base.specs.declared.kinds.End.{End}
 use Rattle.rp_base.specs.declared.kinds.Era.{Era}
 use Rattle.rp_base.specs.declared.limits.TheConstants.{STEPS_MOST}
@@ -29,13 +28,10 @@ use Rattle.link_commands.specs.NamedLinks.{NamedLink}
 use Rattle.link_commands.specs.Recoveries.{close_effect, close_event, opened_effect, reopen_effect, reopen_events}
 use Rattle.link_commands.specs.RingDumps.{bench_ring_events, dump_rows, ring_events, row_count, row_events, ring_events_unless}
 use Rattle.run_laws.proofs.CoreWalks.{FitsNamed}
+use Rattle.act_laws.specs.Deeds.{Deeds}
 use Rattle.way_laws.specs.RunAccounts.{named_takes}
-use Rattle.way_laws.specs.WordedTakes.{AreLinesOfTakes, ComesFromOpening, IsLineOfTake, is_take_line}
-use Rattle.way_laws.proofs.TakeLines.{act_lines}
-
--- none of these events is the line of a take: `TellNoTakes` by cases on the list
-abbrev pub HaveNoTakes : List Event → Type 0
-HaveNoTakes events = AllByRecursion (λ (line : Event). is_take_line line ≡ false) events
+use Rattle.way_laws.specs.WordedTakes.{AreLinesOfTakes, ComesFromOpening, is_take_line}
+use Rattle.way_laws.proofs.TakeLines.{HaveNoTakes, act_lines, all_lines, other_lines}
 
 both_none : (one other : List Event) → HaveNoTakes one → HaveNoTakes other → HaveNoTakes (one ++ other)
 both_none [] other first second = second
@@ -110,11 +106,9 @@ reopened_none name bench steps = opened_none name bench steps (link_reopen_refus
 -- ---- what is done under the name of a link
 
 all_none : (takes : End → List Handing) (name : List ℕ) (events : List Event) → HaveNoTakes events → AreLinesOfTakes takes name events
-all_none takes name events none = All-from_recursion (λ (line : Event). is_take_line line ≡ true → IsLineOfTake takes name line) events (worded events none)
-  where
-    worded : (lines : List Event) → HaveNoTakes lines → AllByRecursion (λ (line : Event). is_take_line line ≡ true → IsLineOfTake takes name line) lines
-    worded [] none = tt
-    worded (line ∷ lines) none = ((λ is. absurd (true≢false (sym is ∙ none.0))), worded lines none.1)
+all_none takes name events none =
+    let deeds : Deeds = record { moves = []; takes = takes } in
+    all_lines name deeds events (other_lines name deeds events none)
 
 pub named_lines : (on : NamedLink) (steps : ℕ) (wanted : NamedAct (List ℕ)) → FitsNamed IsFitAct wanted → IsReachedBench on.bench → ComesFromOpening (link_in on.bench)
     → AreLinesOfTakes (named_takes on.bench steps wanted) on.name (link_effect on steps wanted).events

@@ -24,7 +24,8 @@ use Rattle.run_laws.proofs.CommandWalks.{ActsOnCore, ActsOnLink, CommandOutcome,
 use Rattle.way_laws.specs.CommandTakes.{line_may_take, may_take}
 use Rattle.way_laws.specs.WordedTakes.{TellNoTakes, is_take_line}
 use Rattle.way_laws.proofs.CoreLines.{core_none}
-use Rattle.way_laws.proofs.LinkLines.{HaveNoTakes, close_none, reopened_none, view_none}
+use Rattle.way_laws.proofs.LinkLines.{close_none, reopened_none, view_none}
+use Rattle.way_laws.proofs.TakeLines.{HaveNoTakes}
 
 -- ---- dumps
 

@@ -14,11 +14,11 @@ use Rattle.command_run.specs.Runs.{RunEffect, RunState, new_run, run_of}
 use Rattle.command_run.specs.Stores.{Told}
 use Rattle.run_laws.proofs.CommandWalks.{ActsOnCore, CommandOutcome, MakesCore, made_core, outcome}
 use Rattle.run_laws.proofs.CoresReady.{IsSoundCore}
+use Rattle.run_laws.proofs.RunnableLines.{IsRunnableLine, runnable_line}
 use Rattle.run_laws.proofs.RunWalks.{FitsLine, item_at}
 use Rattle.run_laws.proofs.RunsReached.{AreSound, command_sound, line_fits, none_sound}
 use Rattle.way_laws.proofs.CoreRungs.{IsRungCore, core_rung, new_core_rung}
 use Rattle.way_laws.proofs.Noted.{noted_kept}
-use Rattle.way_laws.proofs.RunTales.{MakesFit, makes_fit}
 
 -- each core has sound rings
 abbrev AreRung : List NamedCoreState → Type 0
@@ -26,7 +26,7 @@ AreRung cores = All (λ (named : NamedCoreState). IsRungCore named.core) cores
 
 -- each outcome of a command leaves them so
 module _ (answer : ImageAnswer) (run : RunState) (sound : AreSound run.objects) (are : AreRung run.objects.cores) where
-  next_rung : {done : Line (List RecipeLine) (List ℕ)} {effect : RunEffect} → CommandOutcome answer run done effect → FitsLine IsFitAct done → MakesFit done → AreRung effect.run.objects.cores
+  next_rung : {done : Line (List RecipeLine) (List ℕ)} {effect : RunEffect} → CommandOutcome answer run done effect → FitsLine IsFitAct done → IsRunnableLine done → AreRung effect.run.objects.cores
   next_rung (MakesCore name set book none) fits fit = All-push (λ (named : NamedCoreState). IsRungCore named.core) run.objects.cores (made_core name set book) are (new_core_rung set book fit)
   next_rung (ActsOnCore name wanted place on at) fits fit =
       All-set (λ (named : NamedCoreState). IsRungCore named.core) run.objects.cores place _
@@ -43,7 +43,7 @@ run_rung told commands runs =
     (noted_kept (λ answer before asked after nothing. tt) Stands
     (λ answer run asked nothing may stands. record {
       sound = command_sound answer run asked may stands.sound;
-      cores = next_rung answer run stands.sound stands.cores (outcome answer run asked) (line_fits asked may) (makes_fit asked may);
+      cores = next_rung answer run stands.sound stands.cores (outcome answer run asked) (line_fits asked may) (runnable_line asked may);
     })
     told new_run commands tt runs (record { sound = none_sound; cores = All-nil (λ (named : NamedCoreState). IsRungCore named.core) })).cores
 

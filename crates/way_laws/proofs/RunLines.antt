@@ -28,8 +28,8 @@ use Rattle.run_laws.proofs.CoresReady.{IsSoundCore}
 use Rattle.run_laws.proofs.Items.{some_is, stands}
 use Rattle.run_laws.proofs.RunWalks.{item_at}
 use Rattle.run_laws.proofs.RunsReached.{line_fits, run_sound}
-use Rattle.way_laws.specs.CoreAccounts.{core_act_deeds, done_on_core, drive_takes, is_unlinked}
-use Rattle.way_laws.specs.RunAccounts.{done_at, is_place, named_takes}
+use Rattle.way_laws.specs.CoreAccounts.{core_act_deeds, core_act_at, drive_takes, is_unlinked}
+use Rattle.way_laws.specs.RunAccounts.{link_act_at, is_place, named_takes}
 use Rattle.way_laws.specs.WordedTakes.{AreLinesAmong, AreLinesOfTakes}
 use Rattle.way_laws.proofs.DriveLines.{drive_among}
 use Rattle.way_laws.proofs.LinkLines.{named_lines}
@@ -52,7 +52,7 @@ same_place (Some at) place is = elim (eqb_tells at place) [
 -- ---- what a command tells that does something on a link
 
 module _ (answer : ImageAnswer) (run : RunState) (place : ℕ) (on : NamedLink) (found : slice_get run.objects.links place ≡ Some on) where
-  link_line : (now : Line (List RecipeLine) (List ℕ)) (wanted : NamedAct (List ℕ)) → done_at run place now ≡ Some wanted → (line_effect answer run now).events ≡ (link_effect on run.steps wanted).events
+  link_line : (now : Line (List RecipeLine) (List ℕ)) (wanted : NamedAct (List ℕ)) → link_act_at run place now ≡ Some wanted → (line_effect answer run now).events ≡ (link_effect on run.steps wanted).events
   link_line (line.Image name lines) wanted is = absurd (cc)
   link_line (line.Quiet set) wanted is = absurd (cc)
   link_line (line.Dump name image) wanted is = absurd (cc)
@@ -61,7 +61,7 @@ module _ (answer : ImageAnswer) (run : RunState) (place : ℕ) (on : NamedLink) 
       ap (λ (effect : RunEffect). effect.events) (link_acts answer run name act place on (record { placed = same_place (place_of run.objects.links name) place made.0; found = found }))
       ∙ ap (λ (w : NamedAct (List ℕ)). (link_effect on run.steps w).events) made.1
 
-  pub link_tells : (asked : Command) (wanted : NamedAct (List ℕ)) → done_at run place (line_of asked) ≡ Some wanted → (effect_of answer run asked).events ≡ (link_effect on run.steps wanted).events
+  pub link_tells : (asked : Command) (wanted : NamedAct (List ℕ)) → link_act_at run place (line_of asked) ≡ Some wanted → (effect_of answer run asked).events ≡ (link_effect on run.steps wanted).events
   unfolding effect_of
   link_tells asked wanted is = link_line (line_of asked) wanted is
 
@@ -84,14 +84,14 @@ module _ (answer : ImageAnswer) (run : RunState) (place : ℕ) (on : NamedCoreSt
       (record { unlinked = linkless run name (place_of run.objects.links name) refl none; placed = same_place (core_place run.objects.cores name) place made.0; found = found }))
       ∙ ap (λ (w : NamedAct (List ℕ)). (core_effect run.objects.images answer run.objects.is_quiet on run.steps w).events) made.1
 
-  core_line : (now : Line (List RecipeLine) (List ℕ)) (wanted : NamedAct (List ℕ)) → done_on_core run place now ≡ Some wanted
+  core_line : (now : Line (List RecipeLine) (List ℕ)) (wanted : NamedAct (List ℕ)) → core_act_at run place now ≡ Some wanted
       → (line_effect answer run now).events ≡ (core_effect run.objects.images answer run.objects.is_quiet on run.steps wanted).events
   core_line (line.Image name lines) wanted is = absurd (cc)
   core_line (line.Quiet set) wanted is = absurd (cc)
   core_line (line.Dump name image) wanted is = absurd (cc)
   core_line (line.On name act) wanted is = core_named name act wanted (is_unlinked run name) refl is
 
-  pub core_tells : (asked : Command) (wanted : NamedAct (List ℕ)) → done_on_core run place (line_of asked) ≡ Some wanted
+  pub core_tells : (asked : Command) (wanted : NamedAct (List ℕ)) → core_act_at run place (line_of asked) ≡ Some wanted
       → (effect_of answer run asked).events ≡ (core_effect run.objects.images answer run.objects.is_quiet on run.steps wanted).events
   unfolding effect_of
   core_tells asked wanted is = core_line (line_of asked) wanted is
@@ -103,7 +103,7 @@ module _ (told : Told) (commands : List Command) (runs : AreRunnable commands) (
   run = (run_of told commands).last
 
   -- what is done under the name of a link
-  pub link_lines : (wanted : NamedAct (List ℕ)) (on : NamedLink) → slice_get run.objects.links place ≡ Some on → done_at run place (line_of asked) ≡ Some wanted
+  pub link_lines : (wanted : NamedAct (List ℕ)) (on : NamedLink) → slice_get run.objects.links place ≡ Some on → link_act_at run place (line_of asked) ≡ Some wanted
       → AreLinesOfTakes (named_takes on.bench run.steps wanted) on.name (effect_of answer run asked).events
   link_lines wanted on found done =
       subst (AreLinesOfTakes (named_takes on.bench run.steps wanted) on.name) (sym (link_tells answer run place on found asked wanted done))
@@ -116,7 +116,7 @@ module _ (told : Told) (commands : List Command) (runs : AreRunnable commands) (
   sound on found = item_at (λ (named : NamedCoreState). IsSoundCore named.core) run.objects.cores place on found (run_sound told commands runs).cores
 
   -- an act on the link of a core
-  pub core_lines : (act : LinkAct (List ℕ)) (on : NamedCoreState) → slice_get run.objects.cores place ≡ Some on → done_on_core run place (line_of asked) ≡ Some (under.Link act)
+  pub core_lines : (act : LinkAct (List ℕ)) (on : NamedCoreState) → slice_get run.objects.cores place ≡ Some on → core_act_at run place (line_of asked) ≡ Some (under.Link act)
       → AreLinesOfTakes (core_act_deeds on.core on.core.bench run.steps act).takes on.name (effect_of answer run asked).events
   unfolding core_effect
   core_lines act on found done =
@@ -127,7 +127,7 @@ module _ (told : Told) (commands : List Command) (runs : AreRunnable commands) (
       (cores_come told commands place on runs found))
 
   -- a drive of a core
-  pub drive_lines : (count : ℕ) (on : NamedCoreState) → slice_get run.objects.cores place ≡ Some on → done_on_core run place (line_of asked) ≡ Some (under.Core (core.Drive count))
+  pub drive_lines : (count : ℕ) (on : NamedCoreState) → slice_get run.objects.cores place ≡ Some on → core_act_at run place (line_of asked) ≡ Some (under.Core (core.Drive count))
       → AreLinesAmong (drive_takes count on.core run.steps) on.name (effect_of answer run asked).events
   unfolding core_effect core_act_effect
   drive_lines count on found done =

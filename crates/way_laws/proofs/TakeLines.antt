@@ -45,10 +45,69 @@ use Rattle.command_run.specs.CoreLinks.{core_link_effect}
 use Rattle.act_laws.specs.CoreDeeds.{drive_deeds, driven_takes}
 use Rattle.act_laws.specs.Deeds.{Deeds, act_deeds, no_deeds}
 use Rattle.way_laws.specs.CoreAccounts.{core_act_deeds}
-use Rattle.way_laws.specs.WordedTakes.{AreLinesOfTakes, ComesFromOpening, IsLineOfTake, is_take_line}
+use Rattle.way_laws.specs.WordedTakes.{AreLinesOfTakes, ComesFromOpening, IsLineOfTake, is_of_calls, is_take_line}
 use Rattle.way_laws.proofs.DrivenTakes.{drive_told}
 use Rattle.way_laws.proofs.DrivenWords.{DrivenTakesOne, drive_once}
 use Rattle.way_laws.proofs.Worded.{IsNoTakeEnd, IsWordedAnswer, IsWordedReach, answer_worded, reach_worded}
+
+-- none of these events is the line of a take: `TellNoTakes` by cases on the list
+abbrev pub HaveNoTakes : List Event → Type 0
+HaveNoTakes events = AllByRecursion (λ (line : Event). is_take_line line ≡ false) events
+
+-- ---- lines of no take
+
+module _ (name : List ℕ) where
+  refused_none : (caller : ℕ) (why : BindFault) → is_take_line (refused_event name caller why) ≡ false
+  refused_none caller (bind_fault.AddressTaken address) = refl
+  refused_none caller bind_fault.EndpointsFull = refl
+  refused_none caller (bind_fault.NotBound address) = refl
+
+  -- the end of a call that is no take
+  end_none : (link : LinkState EndState) (caller : ℕ) (came : CallEnd) → IsNoTakeEnd (turn_end.Reached caller (reach.Ended came)) → is_take_line (end_event name link caller came) ≡ false
+  end_none link caller (ended.Took number judged) none = absurd none
+  end_none link caller (ended.Sent number) none = refl
+  end_none link caller (ended.Gave number) none = refl
+  end_none link caller (ended.Bound endpoint) none = refl
+  end_none link caller (ended.Unbound endpoint) none = refl
+  end_none link caller (ended.Busy holder) none = refl
+  end_none link caller (ended.Dead era) none = refl
+  end_none link caller (ended.NoBuffer accepted returned) none = refl
+  end_none link caller (ended.BookFull accepted) none = refl
+  end_none link caller (ended.Empty accepted) none = refl
+  end_none link caller (ended.Refused why) none = refused_none caller why
+
+  fault_none : (caller : ℕ) (why : BenchFault) → is_take_line (fault_event name caller why) ≡ false
+  fault_none caller fault.NoCaller = refl
+  fault_none caller fault.InCall = refl
+  fault_none caller fault.NoCall = refl
+  fault_none caller (fault.NotHeld number) = refl
+
+  reclaim_none : (caller : ℕ) (came : Reclaim) → is_take_line (reclaim_event name caller came) ≡ false
+  reclaim_none caller reclaim.Done = refl
+  reclaim_none caller (reclaim.StillOpen era) = refl
+  reclaim_none caller (reclaim.Busy holder) = refl
+
+  -- turns that end with no take
+  pub turns_none : (link : LinkState EndState) (done : ℕ) (came : TurnEnd) → IsNoTakeEnd came → HaveNoTakes (turn_events name link done came)
+  turns_none link done turn_end.Whole none = (refl, tt)
+  turns_none link done (turn_end.Fault caller why) none = (fault_none caller why, (refl, tt))
+  turns_none link done (turn_end.Reached caller (reach.At step)) none = (refl, (refl, tt))
+  turns_none link done (turn_end.Reached caller (reach.Ended came)) none = (end_none link caller came none, (refl, tt))
+  turns_none link done (turn_end.Reached caller reach.Limit) none = tt
+
+  -- an answer that tells of no call
+  answer_none : (link : LinkState EndState) (told : ActAnswer) → is_of_calls told ≡ false → HaveNoTakes (answer_events name link told)
+  answer_none link (answer.Caller number end) none = (refl, tt)
+  answer_none link answer.CallersFull none = (refl, tt)
+  answer_none link (answer.Refused caller why) none = (fault_none caller why, tt)
+  answer_none link (answer.TooLong caller len) none = (refl, tt)
+  answer_none link (answer.WrongSide receiver) none = (refl, tt)
+  answer_none link (answer.Begun caller) none = (refl, tt)
+  answer_none link (answer.Reached caller came) none = absurd (true≢false none)
+  answer_none link (answer.Pumped done came) none = absurd (true≢false none)
+  answer_none link (answer.Reclaimed caller came) none = (reclaim_none caller came, tt)
+
+-- ---- lines of takes
 
 module _ (name : List ℕ) (deeds : Deeds) where
   -- an event, if it is the line of a take, is that of a handing that is told
@@ -62,69 +121,23 @@ module _ (name : List ℕ) (deeds : Deeds) where
   pub other_line : (line : Event) → is_take_line line ≡ false → IsLine line
   other_line line none is = absurd (true≢false (sym is ∙ none))
 
-  pub no_lines : (line : Event) → is_take_line line ≡ false → AreLines (line ∷ [])
-  no_lines line none = (other_line line none, tt)
-
-  -- ---- calls
-
-  refused_line : (caller : ℕ) (why : BindFault) → IsLine (refused_event name caller why)
-  refused_line caller (bind_fault.AddressTaken address) = other_line _ refl
-  refused_line caller bind_fault.EndpointsFull = other_line _ refl
-  refused_line caller (bind_fault.NotBound address) = other_line _ refl
+  pub other_lines : (events : List Event) → HaveNoTakes events → AreLines events
+  other_lines [] none = tt
+  other_lines (line ∷ lines) none = (other_line line none.0, other_lines lines none.1)
 
   end_line : (link : LinkState EndState) (caller : ℕ) (came : CallEnd) → IsWordedReach link caller (reach.Ended came) deeds → IsLine (end_event name link caller came)
   end_line link caller (ended.Took number judged) has = λ _. record { end = has.end; caller = caller; handing = has.handing; told = has.told; worded = has.line name }
-  end_line link caller (ended.Sent number) has = other_line _ refl
-  end_line link caller (ended.Gave number) has = other_line _ refl
-  end_line link caller (ended.Bound endpoint) has = other_line _ refl
-  end_line link caller (ended.Unbound endpoint) has = other_line _ refl
-  end_line link caller (ended.Busy holder) has = other_line _ refl
-  end_line link caller (ended.Dead era) has = other_line _ refl
-  end_line link caller (ended.NoBuffer accepted returned) has = other_line _ refl
-  end_line link caller (ended.BookFull accepted) has = other_line _ refl
-  end_line link caller (ended.Empty accepted) has = other_line _ refl
-  end_line link caller (ended.Refused why) has = refused_line caller why
+  end_line link caller other has = other_line (end_event name link caller other) (end_none name link caller other tt)
 
   pub reach_lines : (link : LinkState EndState) (caller : ℕ) (came : Reach) → IsWordedReach link caller came deeds → AreLines (reach_events name link caller came)
-  reach_lines link caller (reach.At step) has = no_lines _ refl
+  reach_lines link caller (reach.At step) has = (other_line _ refl, tt)
   reach_lines link caller (reach.Ended came) has = (end_line link caller came has, tt)
   reach_lines link caller reach.Limit has = tt
 
-  fault_lines : (caller : ℕ) (why : BenchFault) → IsLine (fault_event name caller why)
-  fault_lines caller fault.NoCaller = other_line _ refl
-  fault_lines caller fault.InCall = other_line _ refl
-  fault_lines caller fault.NoCall = other_line _ refl
-  fault_lines caller (fault.NotHeld number) = other_line _ refl
-
-  -- ---- acts
-
-  -- the end of a call that is no take
-  no_take_line : (link : LinkState EndState) (caller : ℕ) (came : CallEnd) → IsNoTakeEnd (turn_end.Reached caller (reach.Ended came)) → IsWordedReach link caller (reach.Ended came) deeds
-  no_take_line link caller (ended.Took number judged) none = absurd none
-  no_take_line link caller other none = tt
-
-  turn_lines : (link : LinkState EndState) (done : ℕ) (came : TurnEnd) → IsNoTakeEnd came → AreLines (turn_events name link done came)
-  turn_lines link done turn_end.Whole none = no_lines _ refl
-  turn_lines link done (turn_end.Fault caller why) none = (fault_lines caller why, no_lines (event.Pumped name done) refl)
-  turn_lines link done (turn_end.Reached caller (reach.At step)) none = (other_line (event.At name caller step) refl, no_lines (event.Pumped name done) refl)
-  turn_lines link done (turn_end.Reached caller (reach.Ended came)) none = (end_line link caller came (no_take_line link caller came none), no_lines (event.Pumped name done) refl)
-  turn_lines link done (turn_end.Reached caller reach.Limit) none = tt
-
-  reclaim_lines : (caller : ℕ) (came : Reclaim) → AreLines (reclaim_event name caller came ∷ [])
-  reclaim_lines caller reclaim.Done = no_lines _ refl
-  reclaim_lines caller (reclaim.StillOpen era) = no_lines _ refl
-  reclaim_lines caller (reclaim.Busy holder) = no_lines _ refl
-
   answer_lines : (link : LinkState EndState) (told : ActAnswer) → IsWordedAnswer link deeds told → AreLines (answer_events name link told)
-  answer_lines link (answer.Caller number end) has = no_lines _ refl
-  answer_lines link answer.CallersFull has = no_lines _ refl
-  answer_lines link (answer.Refused caller why) has = (fault_lines caller why, tt)
-  answer_lines link (answer.TooLong caller len) has = no_lines _ refl
-  answer_lines link (answer.WrongSide receiver) has = no_lines _ refl
-  answer_lines link (answer.Begun caller) has = no_lines _ refl
   answer_lines link (answer.Reached caller came) has = reach_lines link caller came has
-  answer_lines link (answer.Pumped done came) has = turn_lines link done came has
-  answer_lines link (answer.Reclaimed caller came) has = reclaim_lines caller came
+  answer_lines link (answer.Pumped done came) has = other_lines (turn_events name link done came) (turns_none name link done came has)
+  answer_lines link other has = other_lines (answer_events name link other) (answer_none name link other refl)
 
   pub all_lines : (events : List Event) → AreLines events → AreLinesOfTakes deeds.takes name events
   all_lines events are = All-from_recursion IsLine events are
@@ -142,7 +155,7 @@ act_lines name bench steps asked fit reached comes =
 pub core_act_lines : (name : List ℕ) (core : CoreState) (steps : ℕ) (asked : LinkAct (List ℕ)) (found : Option BenchState) → IsFitAct asked → IfSome found IsReachedBench
     → IfSome found (λ (bench : BenchState). ComesFromOpening (link_in bench)) → AreLinesOfTakes (core_act_deeds core found steps asked).takes name (core_link_effect name core steps asked found).events
 unfolding core_link_effect
-core_act_lines name core steps asked None fit reached comes = all_lines name no_deeds (event.NoLink name ∷ []) (no_lines name no_deeds (event.NoLink name) refl)
+core_act_lines name core steps asked None fit reached comes = all_lines name no_deeds (event.NoLink name ∷ []) (other_line name no_deeds (event.NoLink name) refl, tt)
 core_act_lines name core steps asked (Some bench) fit reached comes =
     let acted = act_on_core core bench steps asked in
     let deeds = act_deeds actors_after_end 2 bench core.actors steps asked in
@@ -153,8 +166,8 @@ core_act_lines name core steps asked (Some bench) fit reached comes =
 
 module _ (name : List ℕ) (is_quiet : Bool) (deeds : Deeds) where
   crash_lines : (why : CrashKind) (closed : Option ℕ) → AreLines name deeds (crash_events name why closed)
-  crash_lines why None = no_lines name deeds (event.Crashed name why) refl
-  crash_lines why (Some inc) = (other_line name deeds (event.Closed name inc) refl, no_lines name deeds (event.Crashed name why) refl)
+  crash_lines why None = (other_line name deeds (event.Crashed name why) refl, tt)
+  crash_lines why (Some inc) = other_lines name deeds (crash_events name why (Some inc)) (refl, (refl, tt))
 
   driven_lines : (came : Driven) (found : Option BenchState) → DrivenTakesOne came found → ((end : End) → deeds.takes end ≡ driven_takes came found end)
       → AreLinesOfTakes deeds.takes name (driven_events name is_quiet found came)

@@ -1,5 +1,5 @@
 -- What a call tells of a take is what its command words.
-use Rattle.std.proofs.Common.{◌≡◌, ℕ, List, [], ◌∷◌, Option, Some, None, option_map, unwrap_or, slice_get, refl, sym, ap, subst, ◌∙◌}
+use Rattle.std.proofs.Common.{◌≡◌, ℕ, false, List, [], ◌∷◌, Option, Some, None, option_map, unwrap_or, slice_get, refl, sym, ap, subst, ◌∙◌}
 use Rattle.std.specs.Result.{is_ok}
 use Rattle.std.proofs.lemmas.Bool.{true≢false}
 use Rattle.std.proofs.lemmas.List.{append-nil}
@@ -10,21 +10,27 @@ use Rattle.lane_model.specs.declared.calls.CallEnd.TheVariants as ended
 use Rattle.lane_model.specs.declared.calls.Outcome.TheVariants as outcome
 use Rattle.lane_model.specs.declared.calls.Wish.{Wish}
 use Rattle.lane_model.specs.declared.states.BookEntry.{BookEntry}
-use Rattle.lane_model.specs.Links.{LinkState, end_of}
+use Rattle.lane_model.specs.declared.recoveries.ReclaimRefusal.{ReclaimRefusal}
+use Rattle.lane_model.specs.Links.{LinkState, end_of, free_number}
+use Rattle.lane_model.specs.Recoveries.{link_reclaim_refusal}
 use Rattle.lane_laws.specs.Handings.{Handing, handing_of}
 use Rattle.lane_laws.specs.Takes.{step_takes}
 use Rattle.channel_bus.specs.Sides.{EndState}
 use Rattle.link_bench.specs.declared.acts.ActAnswer.{ActAnswer}
 use Rattle.link_bench.specs.declared.acts.ActAnswer.TheVariants as answer
+use Rattle.link_bench.specs.declared.acts.How.{How}
+use Rattle.link_bench.specs.declared.acts.How.TheVariants as how
 use Rattle.link_bench.specs.declared.acts.LinkAct.{LinkAct}
+use Rattle.link_bench.specs.declared.acts.LinkAct.TheVariants as act
+use Rattle.link_bench.specs.declared.benches.BenchFault.{BenchFault}
 use Rattle.link_bench.specs.declared.benches.BegunCall.{BegunCall}
 use Rattle.link_bench.specs.declared.benches.Reach.{Reach}
 use Rattle.link_bench.specs.declared.benches.Reach.TheVariants as reach
 use Rattle.link_bench.specs.declared.turns.TurnEnd.{TurnEnd}
 use Rattle.link_bench.specs.declared.turns.TurnEnd.TheVariants as turn_end
-use Rattle.link_bench.specs.ActParts.{ActPart, act_parts}
-use Rattle.link_bench.specs.Acts.{IsFitAct, link_act}
-use Rattle.link_bench.specs.Benches.{BenchState, IsSendable, advance_steps, begun_call_of, link_in, message_for}
+use Rattle.link_bench.specs.ActParts.{ActPart, act_parts, free_parts, made_parts, parts_unless}
+use Rattle.link_bench.specs.Acts.{Acted, IsFitAct, call_act, free_act, link_act, made_call, misfit, own_in, pump_act, pump_refusal, step_act, unless_own, unless_refused, wish_of}
+use Rattle.link_bench.specs.Benches.{BenchState, IsSendable, advance_steps, begun_call_of, link_in, message_for, ready_fault, step_fault}
 use Rattle.link_bench.specs.Watchers.{Seeing}
 use Rattle.link_bench.proofs.ActAnswers.{Came, EndsTurns, IsAnswer, IsCallerOf, OfCall, OfSteps, Reaches}
 use Rattle.link_bench.proofs.ActWalks.{AnyWish, act_done, any_calls}
@@ -32,9 +38,9 @@ use Rattle.link_bench.proofs.Begun.{begin_may}
 use Rattle.core_laws.specs.BenchMoves.{IsReachedBench}
 use Rattle.link_bench.proofs.SendableActs.{calls_sendable}
 use Rattle.link_commands.specs.CallEvents.{end_event, took_event}
-use Rattle.act_laws.specs.Deeds.{Deeds, act_deeds, advance_deeds, parts_deeds, reach_takes}
+use Rattle.act_laws.specs.Deeds.{Deeds, act_deeds, advance_deeds, caller_deeds, deeds_then, no_deeds, parts_deeds, reach_takes, reclaim_deeds}
 use Rattle.act_laws.proofs.ReachedActs.{may_act}
-use Rattle.way_laws.specs.WordedTakes.{ComesFromOpening, IsWordedTake}
+use Rattle.way_laws.specs.WordedTakes.{ComesFromOpening, IsWordedTake, is_of_calls}
 use Rattle.way_laws.proofs.BookedTakes.{IsOneTake, ReachTakesOne, advance_once, begin_once}
 
 -- ---- the line of a take
@@ -122,9 +128,66 @@ turns_end : (Comes : ℕ → Reach → Type 0) (Is : ℕ → Type 0) (came : Tur
 turns_end Comes Is (turn_end.Reached caller (reach.Ended (ended.Took number judged))) told = absurd (true≢false (ap is_ok told.2))
 turns_end Comes Is other told = tt
 
+-- ---- acts that answer of no call
+
+module _ {W : Type 0} (sees : Seeing W) (bench : BenchState) (watcher : W) (steps : ℕ) where
+  -- where this is answered, which tells of no call, these parts tell of no take
+  abbrev TellsNone : ActAnswer → List ActPart → Type 0
+  TellsNone told parts = is_of_calls told ≡ false → (end : End) → (parts_deeds bench parts).takes end ≡ []
+
+  unless_refused_none : (why : Option ActAnswer) (acted : Acted W) (parts : List ActPart) → TellsNone acted.answer parts
+      → TellsNone (unless_refused bench watcher steps why acted).answer (parts_unless why parts)
+  unless_refused_none None acted parts none = none
+  unless_refused_none (Some told) acted parts none = λ _ end. refl
+
+  unless_fault_none : (caller : ℕ) (why : Option BenchFault) (acted : Acted W) (parts : List ActPart) → TellsNone acted.answer parts
+      → TellsNone (unless_refused bench watcher steps (option_map (answer.Refused caller) why) acted).answer (parts_unless why parts)
+  unless_fault_none caller None acted parts none = none
+  unless_fault_none caller (Some why) acted parts none = λ _ end. refl
+
+  made_none : (caller : ℕ) (made : How) (wanted : Wish) → TellsNone (made_call sees bench watcher steps caller made wanted).answer (made_parts bench steps caller made wanted)
+  made_none caller how.Whole wanted = λ none. absurd (true≢false none)
+  made_none caller how.Begun wanted = λ _ end. refl
+
+  joined_none : (at : End) (number : Option ℕ) (end : End) → (deeds_then (caller_deeds at number) no_deeds).takes end ≡ []
+  joined_none at None end = refl
+  joined_none at (Some number) end = refl
+
+  reclaimed_none : (caller : ℕ) (found : Option End) (why : Option ReclaimRefusal) (end : End) → (deeds_then (reclaim_deeds caller found why) no_deeds).takes end ≡ []
+  reclaimed_none caller None why end = refl
+  reclaimed_none caller (Some at) None end = refl
+  reclaimed_none caller (Some at) (Some why) end = refl
+
+  free_none : (asked : LinkAct (List ℕ)) → TellsNone (free_act sees bench watcher steps asked).answer (free_parts sees bench watcher steps asked)
+  unfolding call_act step_act pump_act
+  free_none (act.Caller at) = λ _. joined_none at (free_number (link_in bench).callers)
+  free_none (act.Call caller made wanted) =
+      unless_fault_none caller (ready_fault bench caller) _ _ (unless_refused_none (misfit bench caller wanted) _ _ (made_none caller made (wish_of wanted)))
+  free_none (act.Step caller more) = unless_fault_none caller (step_fault bench caller) _ _ (λ none. absurd (true≢false none))
+  free_none (act.Pump sender receiver count) = unless_refused_none (pump_refusal bench sender receiver) _ _ (λ none. absurd (true≢false none))
+  free_none (act.Reclaim caller) = λ _. reclaimed_none caller (end_of (link_in bench).callers caller) (link_reclaim_refusal (link_in bench) caller)
+
+  unless_own_none : (found : Option ℕ) (asked : LinkAct (List ℕ))
+      → TellsNone (unless_own bench watcher steps found (free_act sees bench watcher steps asked)).answer (parts_unless found (free_parts sees bench watcher steps asked))
+  unless_own_none None asked = free_none asked
+  unless_own_none (Some caller) asked = λ _ end. refl
+
+  -- an act that answers neither how far a call came nor how turns ended tells of no take
+  pub act_none : (own : ℕ) (asked : LinkAct (List ℕ)) → is_of_calls (link_act sees own bench watcher steps asked).answer ≡ false → (end : End)
+      → (act_deeds sees own bench watcher steps asked).takes end ≡ []
+  unfolding act_deeds act_parts link_act
+  act_none own asked = unless_own_none (own_in bench own asked) asked
+
 -- ---- acts
 
 module _ {W : Type 0} (sees : Seeing W) (bench : BenchState) (watcher : W) (steps : ℕ) where
+  -- turns that an act answers of end with no take
+  pub pump_ends : (own : ℕ) (asked : LinkAct (List ℕ)) (done : ℕ) (came : TurnEnd) → (link_act sees own bench watcher steps asked).answer ≡ answer.Pumped done came → IsNoTakeEnd came
+  pump_ends own asked done came is =
+      let comes = subst (IsAnswer sees own AnyWish bench watcher asked (act_parts sees own bench watcher steps asked) (link_act sees own bench watcher steps asked).bench) is
+      (act_done sees own AnyWish bench watcher steps asked (any_calls asked)).answer in
+      turns_end (Came sees own AnyWish bench watcher) (IsCallerOf asked) came comes.1
+
   -- what an act tells of takes that answers how far a call came
   pub act_tells : (own : ℕ) (asked : LinkAct (List ℕ)) (caller : ℕ) (came : Reach) → (link_act sees own bench watcher steps asked).answer ≡ answer.Reached caller came → (end : End)
       → (act_deeds sees own bench watcher steps asked).takes end ≡ reach_takes (link_in (link_act sees own bench watcher steps asked).bench) caller came end

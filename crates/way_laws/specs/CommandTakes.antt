@@ -16,8 +16,8 @@ use Rattle.link_commands.specs.NamedLinks.{NamedLink}
 use Rattle.command_run.specs.NamedCores.{NamedCoreState}
 use Rattle.command_run.specs.Runs.{RunState, run_of}
 use Rattle.command_run.specs.Stores.{Told}
-use Rattle.way_laws.specs.CoreAccounts.{core_act_deeds, done_on_core, drive_takes}
-use Rattle.way_laws.specs.RunAccounts.{done_at, named_takes}
+use Rattle.way_laws.specs.CoreAccounts.{core_act_deeds, core_act_at, drive_takes}
+use Rattle.way_laws.specs.RunAccounts.{link_act_at, named_takes}
 use Rattle.way_laws.specs.WordedTakes.{IsLineAmong, IsLineOfTake, is_take_line}
 
 -- whether what is done under a name may take messages: an act on a link may, and a drive
@@ -43,7 +43,7 @@ pub record IsTakeOfLink (run : RunState) (done : Line (List RecipeLine) (List �
   pub on : NamedLink
   pub wanted : NamedAct (List ℕ)
   pub has : slice_get run.objects.links place ≡ Some on
-  pub does : done_at run place done ≡ Some wanted
+  pub does : link_act_at run place done ≡ Some wanted
   pub worded : IsLineOfTake (named_takes on.bench run.steps wanted) on.name event
 
 -- an event is the line of a handing among those that are told at an end of the link of a core of the run, by what a command does under the name of that core
@@ -52,7 +52,7 @@ pub record IsTakeOfCore (run : RunState) (done : Line (List RecipeLine) (List �
   pub on : NamedCoreState
   pub wanted : NamedAct (List ℕ)
   pub has : slice_get run.objects.cores place ≡ Some on
-  pub does : done_on_core run place done ≡ Some wanted
+  pub does : core_act_at run place done ≡ Some wanted
   pub worded : IsLineAmong (core_takes on run.steps wanted) on.name event
 
 -- each of these events that is the line of a take is that of a handing which is told on a link of the run, or on that of a core

@@ -125,11 +125,11 @@ abbrev pub is_unlinked : RunState → List ℕ → Bool
 is_unlinked run name = is_none (option_and_then (slice_get run.objects.links) (place_of run.objects.links name))
 
 -- what a line does under the name of the core at this place
-abbrev pub done_on_core : RunState → ℕ → Line (List RecipeLine) (List ℕ) → Option (NamedAct (List ℕ))
-done_on_core run place (line.Image name lines) = None
-done_on_core run place (line.Quiet set) = None
-done_on_core run place (line.Dump name image) = None
-done_on_core run place (line.On name wanted) = if is_unlinked run name && is_place (core_place run.objects.cores name) place then Some wanted else None
+abbrev pub core_act_at : RunState → ℕ → Line (List RecipeLine) (List ℕ) → Option (NamedAct (List ℕ))
+core_act_at run place (line.Image name lines) = None
+core_act_at run place (line.Quiet set) = None
+core_act_at run place (line.Dump name image) = None
+core_act_at run place (line.On name wanted) = if is_unlinked run name && is_place (core_place run.objects.cores name) place then Some wanted else None
 
 -- the account of the link of a core behind what is done on it, if anything is
 abbrev pub core_account_behind : End → List ImageState → ImageAnswer → NamedCoreState → ℕ → Option (NamedAct (List ℕ)) → Option Account → Option Account
@@ -139,7 +139,7 @@ core_account_behind end images answer on steps (Some wanted) account = core_acco
 -- the account of the link of the core at a place behind a command; a core is made without a link
 abbrev pub next_core_account : End → ℕ → ImageAnswer → RunState → Line (List RecipeLine) (List ℕ) → Option NamedCoreState → Option Account → Option Account
 next_core_account end place answer before done (Some on) account =
-    core_account_behind end before.objects.images answer on before.steps (done_on_core before place done) account
+    core_account_behind end before.objects.images answer on before.steps (core_act_at before place done) account
 next_core_account end place answer before done None account = None
 
 -- what a command adds to the account of the link of the core at a place

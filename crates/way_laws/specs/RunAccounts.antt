@@ -53,11 +53,11 @@ is_place None place = false
 is_place (Some at) place = at == place
 
 -- what a line does under the name of the link at this place
-abbrev pub done_at : RunState → ℕ → Line (List RecipeLine) (List ℕ) → Option (NamedAct (List ℕ))
-done_at run place (line.Image name lines) = None
-done_at run place (line.Quiet set) = None
-done_at run place (line.Dump name image) = None
-done_at run place (line.On name wanted) = if is_place (place_of run.objects.links name) place then Some wanted else None
+abbrev pub link_act_at : RunState → ℕ → Line (List RecipeLine) (List ℕ) → Option (NamedAct (List ℕ))
+link_act_at run place (line.Image name lines) = None
+link_act_at run place (line.Quiet set) = None
+link_act_at run place (line.Dump name image) = None
+link_act_at run place (line.On name wanted) = if is_place (place_of run.objects.links name) place then Some wanted else None
 
 -- the account of a link behind what is done on it, if anything is
 abbrev pub account_behind : End → BenchState → ℕ → Option (NamedAct (List ℕ)) → Account → Account
@@ -67,7 +67,7 @@ account_behind end bench steps (Some wanted) account = account_after end bench s
 -- the account of the link at a place behind a command: it goes on where the link was there, and begins where the command made the link
 abbrev pub next_account : End → ℕ → RunState → Line (List RecipeLine) (List ℕ) → RunState → Option NamedLink → Option Account → Option Account
 next_account end place before done after (Some on) account =
-    option_map (account_behind end on.bench before.steps (done_at before place done)) account
+    option_map (account_behind end on.bench before.steps (link_act_at before place done)) account
 next_account end place before done after None account =
     option_map (λ (made : NamedLink). new_account (link_in made.bench)) (slice_get after.objects.links place)
 

@@ -1,20 +1,11 @@
 -- The lines of takes in the order in which they are told, caller by caller (own).
-use Rattle.std.specs.Prelude.{ℕ, zero, suc, ◌==◌, Bool, false, List, [], filter, map, Option, Some, None, option_map, unwrap_or, if◌then◌else◌}
+use Rattle.std.specs.Prelude.{ℕ, zero, suc, ◌==◌, Bool, false, List, [], filter, map, option_map, unwrap_or, if◌then◌else◌}
 use Rattle.rp_base.specs.declared.kinds.End.{End}
 use Rattle.rp_base.specs.declared.kinds.End.TheVariants as side
 use Rattle.lane_laws.specs.Handings.{Handing}
 use Rattle.journal.specs.declared.events.Event.{Event}
-use Rattle.journal.specs.declared.events.Event.TheVariants as event
 use Rattle.link_commands.specs.CallEvents.{took_event}
-
--- the caller whose take an event is the line of
-abbrev pub taker_of : Event → Option ℕ
-taker_of (event.TookFromTo name caller number source endpoint payload) = Some caller
-taker_of (event.TookFromDropped name caller number source destination payload) = Some caller
-taker_of (event.TookMalformed name caller number) = Some caller
-taker_of (event.TookNs name caller number kind channel address) = Some caller
-taker_of (event.TookNsMalformed name caller number) = Some caller
-taker_of other = None
+use Rattle.way_laws.specs.WordedTakes.{taker_of}
 
 -- whether an event is the line of a take of this caller
 abbrev pub is_line_of : ℕ → Event → Bool
@@ -29,11 +20,11 @@ abbrev pub lines_for : List ℕ → ℕ → List Handing → List Event
 lines_for name caller handings = map (λ handing. took_event name caller handing.sent.number handing.sent.message handing.verdict) handings
 
 -- of what is told at the ends of a core's link, what its actor with this caller is told: the drivers have caller 0 at the host end, the worker has caller 1 at the remote end, and no other caller is an actor's
-abbrev pub told_to : (End → List Handing) → ℕ → List Handing
-told_to takes zero = takes side.Host
-told_to takes (suc zero) = takes side.Remote
-told_to takes (suc (suc more)) = []
+abbrev pub actor_takes : (End → List Handing) → ℕ → List Handing
+actor_takes takes zero = takes side.Host
+actor_takes takes (suc zero) = takes side.Remote
+actor_takes takes (suc (suc more)) = []
 
 -- the lines of takes that a drive tells of this caller: those of all that its actor is told, or none where the run is quiet
 abbrev pub drive_lines : Bool → List ℕ → ℕ → (End → List Handing) → List Event
-drive_lines is_quiet name caller takes = if is_quiet then [] else lines_for name caller (told_to takes caller)
+drive_lines is_quiet name caller takes = if is_quiet then [] else lines_for name caller (actor_takes takes caller)

@@ -1,5 +1,5 @@
 -- The line of a take, against the handing of which its taker is told (own).
-use Rattle.std.specs.Prelude.{◌≡◌, ◌≢◌, ℕ, Bool, true, false, List, [], ◌∷◌, Some, All, Contains}
+use Rattle.std.specs.Prelude.{◌≡◌, ◌≢◌, ℕ, Bool, true, false, List, [], ◌∷◌, Option, Some, None, is_some, All, Contains}
 use Rattle.rp_base.specs.declared.kinds.End.{End}
 use Rattle.rp_base.specs.declared.kinds.Verdict.{Verdict}
 use Rattle.lane_model.specs.declared.calls.CallEnd.TheVariants as call_end
@@ -9,6 +9,8 @@ use Rattle.lane_laws.specs.Ways.{IsWay, Way, link_of_way}
 use Rattle.channel_bus.specs.Sides.{EndState, side_meaning}
 use Rattle.journal.specs.declared.events.Event.{Event}
 use Rattle.journal.specs.declared.events.Event.TheVariants as event
+use Rattle.link_bench.specs.declared.acts.ActAnswer.{ActAnswer}
+use Rattle.link_bench.specs.declared.acts.ActAnswer.TheVariants as answer
 use Rattle.link_commands.specs.CallEvents.{end_event, took_event}
 
 -- a link comes by a way from an opening of it
@@ -26,14 +28,24 @@ pub record IsWordedTake (takes : End → List Handing) (left : LinkState EndStat
   pub none_else : (other : End) → other ≢ end → takes other ≡ []
   pub line : (name : List ℕ) → end_event name left caller (call_end.Took number judged) ≡ took_event name caller handing.sent.number handing.sent.message handing.verdict
 
+-- whether an answer of an act tells of calls: how far one came, or how turns ended
+abbrev pub is_of_calls : ActAnswer → Bool
+is_of_calls (answer.Reached caller came) = true
+is_of_calls (answer.Pumped done came) = true
+is_of_calls other = false
+
+-- the caller whose take an event is the line of
+abbrev pub taker_of : Event → Option ℕ
+taker_of (event.TookFromTo name caller number source endpoint payload) = Some caller
+taker_of (event.TookFromDropped name caller number source destination payload) = Some caller
+taker_of (event.TookMalformed name caller number) = Some caller
+taker_of (event.TookNs name caller number kind channel address) = Some caller
+taker_of (event.TookNsMalformed name caller number) = Some caller
+taker_of other = None
+
 -- whether an event is the line of a take
 abbrev pub is_take_line : Event → Bool
-is_take_line (event.TookFromTo name caller number source endpoint payload) = true
-is_take_line (event.TookFromDropped name caller number source destination payload) = true
-is_take_line (event.TookMalformed name caller number) = true
-is_take_line (event.TookNs name caller number kind channel address) = true
-is_take_line (event.TookNsMalformed name caller number) = true
-is_take_line other = false
+is_take_line line = is_some (taker_of line)
 
 -- none of these events is the line of a take
 abbrev pub TellNoTakes : List Event → Type 0

@@ -3,4 +3,6 @@
 
 mod runs;
 
-pub use runs::{cores_told, lines_have_takes, links_own, links_told, takes_are_worded};
+pub use runs::{
+    cores_told, lines_have_takes, links_own, links_told, takes_are_worded, takes_have_lines,
+};

@@ -15,6 +15,7 @@ ghost use Rattle.link_bench.specs.declared.acts.ActAnswer.TheVariants as answer;
 ghost use Rattle.link_bench.specs.declared.acts.LinkAct.{LinkAct};
 ghost use Rattle.link_bench.specs.declared.benches.Reach.{Reach};
 ghost use Rattle.link_bench.specs.declared.benches.Reach.TheVariants as reach;
+ghost use Rattle.link_bench.specs.declared.turns.TurnEnd.{TurnEnd};
 ghost use Rattle.link_bench.specs.Acts.{IsFitAct, link_act};
 ghost use Rattle.link_bench.specs.Watchers.{nobody_sees};
 ghost use Rattle.core_actors.specs.declared.progress.Driven.TheVariants as driven;
@@ -40,10 +41,10 @@ ghost use Rattle.link_commands.specs.declared.acts.NamedAct.TheVariants as under
 ghost use Rattle.link_commands.specs.Acts.{line_of};
 ghost use Rattle.act_laws.specs.Accounts.{Account, IsAccount};
 ghost use Rattle.way_laws.specs.CommandTakes.{AreTakesOfRun, IsTakeInRun, core_takes, line_may_take};
-ghost use Rattle.way_laws.specs.CoreAccounts.{core_account_of, core_act_deeds, done_on_core, drive_account, drive_takes};
-ghost use Rattle.way_laws.specs.RunAccounts.{account_of, done_at, named_takes};
+ghost use Rattle.way_laws.specs.CoreAccounts.{core_account_of, core_act_deeds, core_act_at, drive_account, drive_takes};
+ghost use Rattle.way_laws.specs.RunAccounts.{account_of, link_act_at, named_takes};
 ghost use Rattle.way_laws.specs.TakersLines.{drive_lines, lines_of};
-ghost use Rattle.way_laws.specs.WordedTakes.{AreLinesAmong, AreLinesOfTakes, ComesFromOpening, IsWordedTake, TellNoTakes, is_take_line};
+ghost use Rattle.way_laws.specs.WordedTakes.{AreLinesAmong, AreLinesOfTakes, ComesFromOpening, IsWordedTake, TellNoTakes, is_of_calls, is_take_line};
 
 /// After each list of commands, and so after each front of a script, a link of the run comes by the run's own moves since it was made or last
 /// reopened; and what the run told of takes on it since then, at an end of it, is what those moves handed over there, in order and each once,
@@ -71,7 +72,7 @@ pub fn links_own()
 {}
 
 /// Where an act answers how far a call came, as each call and step of a script does that nothing refuses, on a link of the script or of a core, what
-/// it tells of takes is by how that call ended. A step of a core's actors tells of the call that it ended, and of no other. And the line of a take has
+/// it tells of takes is by how that call ended, and where it answers neither that nor how turns ended, it tells of no take. A step of a core's actors tells of the call that it ended, and of no other. And the line of a take has
 /// the number, the bytes and the verdict of the handing that is told. On a link that comes by a way from an opening, as each link of a run does, no
 /// such line is without a handing: where the call took a message, one handing is told at its caller's end, and the line is that of it.
 pub fn takes_are_worded()
@@ -81,6 +82,10 @@ pub fn takes_are_worded()
     ensures of_core { (core : CoreState) (bench : BenchState) (steps : ℕ) (asked : LinkAct (List ℕ)) (caller : ℕ) (came : Reach)
         → (act_on_core core bench steps asked).answer ≡ answer.Reached caller came
         → (end : End) → (core_act_deeds core (Some bench) steps asked).takes end ≡ reach_takes (link_in (act_on_core core bench steps asked).bench) caller came end }
+    ensures none { (own : ℕ) (bench : BenchState) (steps : ℕ) (asked : LinkAct (List ℕ)) → is_of_calls (link_act nobody_sees own bench tt steps asked).answer ≡ false
+        → (end : End) → (act_deeds nobody_sees own bench tt steps asked).takes end ≡ [] }
+    ensures none_of_core { (core : CoreState) (bench : BenchState) (steps : ℕ) (asked : LinkAct (List ℕ)) → is_of_calls (act_on_core core bench steps asked).answer ≡ false
+        → (end : End) → (core_act_deeds core (Some bench) steps asked).takes end ≡ [] }
     ensures driven { (core : CoreState) (end : End) → (drive_deeds core).takes end ≡ driven_takes (drive_step core).driven (drive_step core).core.bench end }
     ensures line { (name : List ℕ) (link : LinkState EndState) (caller number : ℕ) (judged : Verdict) (handing : Handing) (end : End) → end_of link.callers caller ≡ Some end
         → reach_takes link caller (reach.Ended (call_end.Took number judged)) end ≡ handing ∷ []
@@ -113,17 +118,17 @@ pub fn lines_have_takes()
     ensures link { (told : Told) (commands : List Command) (answer : ImageAnswer) (asked : Command) (place : ℕ) (wanted : NamedAct (List ℕ)) (on : NamedLink)
         → AreRunnable commands → IsRunnable asked
         → let run = (run_of told commands).last in
-        slice_get run.objects.links place ≡ Some on → done_at run place (line_of asked) ≡ Some wanted
+        slice_get run.objects.links place ≡ Some on → link_act_at run place (line_of asked) ≡ Some wanted
         → AreLinesOfTakes (named_takes on.bench run.steps wanted) on.name (effect_of answer run asked).events }
     ensures of_core { (told : Told) (commands : List Command) (answer : ImageAnswer) (asked : Command) (place : ℕ) (act : LinkAct (List ℕ)) (on : NamedCoreState)
         → AreRunnable commands → IsRunnable asked
         → let run = (run_of told commands).last in
-        slice_get run.objects.cores place ≡ Some on → done_on_core run place (line_of asked) ≡ Some (under.Link act)
+        slice_get run.objects.cores place ≡ Some on → core_act_at run place (line_of asked) ≡ Some (under.Link act)
         → AreLinesOfTakes (core_act_deeds on.core on.core.bench run.steps act).takes on.name (effect_of answer run asked).events }
     ensures drive { (told : Told) (commands : List Command) (answer : ImageAnswer) (asked : Command) (place count : ℕ) (on : NamedCoreState)
         → AreRunnable commands → IsRunnable asked
         → let run = (run_of told commands).last in
-        slice_get run.objects.cores place ≡ Some on → done_on_core run place (line_of asked) ≡ Some (under.Core (core.Drive count))
+        slice_get run.objects.cores place ≡ Some on → core_act_at run place (line_of asked) ≡ Some (under.Core (core.Drive count))
         → AreLinesAmong (drive_takes count on.core run.steps) on.name (effect_of answer run asked).events }
     ensures driven { (name : List ℕ) (is_quiet : Bool) (core : CoreState) → MayDrive core → IsReachedCore core
         → IfSome core.bench (λ (bench : BenchState). ComesFromOpening (link_in bench))
@@ -134,7 +139,7 @@ pub fn lines_have_takes()
     ensures named_core { (told : Told) (commands : List Command) (answer : ImageAnswer) (asked : Command) (place : ℕ) (wanted : NamedAct (List ℕ)) (on : NamedCoreState)
         → AreRunnable commands → IsRunnable asked
         → let run = (run_of told commands).last in
-        slice_get run.objects.cores place ≡ Some on → done_on_core run place (line_of asked) ≡ Some wanted
+        slice_get run.objects.cores place ≡ Some on → core_act_at run place (line_of asked) ≡ Some wanted
         → AreLinesAmong (core_takes on run.steps wanted) on.name (effect_of answer run asked).events }
     ensures others { (answer : ImageAnswer) (run : RunState) (asked : Command) → line_may_take (line_of asked) ≡ false → TellNoTakes (effect_of answer run asked).events }
     ensures nameless { (answer : ImageAnswer) (run : RunState) (asked : Command) (name : List ℕ) (wanted : NamedAct (List ℕ)) → line_of asked ≡ line.On name wanted
@@ -145,22 +150,28 @@ pub fn lines_have_takes()
         → All (λ (event : Event). is_take_line event ≡ true → IsTakeInRun told commands event) (run_of told commands).events }
 {}
 
-/// And each take has its line. Where a call of an act on a link ended as a take, the command tells the line of that call and nothing else. A drive of a
-/// core tells for each of the core's actors the lines of all that the actor is told, one by one, in the order in which they were handed over, and no
+/// And takes have their lines. Where an act on a link answers that a call ended as a take, the command tells the line of that call and nothing else;
+/// where it answers how turns ended, as a pump does, it tells no line of a take. A drive of a core tells for each of the core's actors the lines of all that the actor is told, one by one, in the order in which they were handed over, and no
 /// line of another caller's take; in a quiet run it tells none of them.
 pub fn takes_have_lines()
     ensures act { (found : ImageAnswer) (run : RunState) (asked : Command) (place : ℕ) (act : LinkAct (List ℕ)) (on : NamedLink) (caller number : ℕ) (judged : Verdict)
         → let acted = link_act nobody_sees 0 on.bench tt run.steps act in
-        slice_get run.objects.links place ≡ Some on → done_at run place (line_of asked) ≡ Some (under.Link act)
+        slice_get run.objects.links place ≡ Some on → link_act_at run place (line_of asked) ≡ Some (under.Link act)
         → acted.answer ≡ answer.Reached caller (reach.Ended (call_end.Took number judged))
         → (effect_of found run asked).events ≡ end_event on.name (link_in acted.bench) caller (call_end.Took number judged) ∷ [] }
     ensures of_core { (found : ImageAnswer) (run : RunState) (asked : Command) (place : ℕ) (act : LinkAct (List ℕ)) (on : NamedCoreState) (bench : BenchState) (caller number : ℕ) (judged : Verdict)
         → let acted = act_on_core on.core bench run.steps act in
-        slice_get run.objects.cores place ≡ Some on → on.core.bench ≡ Some bench → done_on_core run place (line_of asked) ≡ Some (under.Link act)
+        slice_get run.objects.cores place ≡ Some on → on.core.bench ≡ Some bench → core_act_at run place (line_of asked) ≡ Some (under.Link act)
         → acted.answer ≡ answer.Reached caller (reach.Ended (call_end.Took number judged))
         → (effect_of found run asked).events ≡ end_event on.name (link_in acted.bench) caller (call_end.Took number judged) ∷ [] }
+    ensures pump { (found : ImageAnswer) (run : RunState) (asked : Command) (place : ℕ) (act : LinkAct (List ℕ)) (on : NamedLink) (done : ℕ) (came : TurnEnd)
+        → slice_get run.objects.links place ≡ Some on → link_act_at run place (line_of asked) ≡ Some (under.Link act)
+        → (link_act nobody_sees 0 on.bench tt run.steps act).answer ≡ answer.Pumped done came → TellNoTakes (effect_of found run asked).events }
+    ensures pump_of_core { (found : ImageAnswer) (run : RunState) (asked : Command) (place : ℕ) (act : LinkAct (List ℕ)) (on : NamedCoreState) (bench : BenchState) (done : ℕ) (came : TurnEnd)
+        → slice_get run.objects.cores place ≡ Some on → on.core.bench ≡ Some bench → core_act_at run place (line_of asked) ≡ Some (under.Link act)
+        → (act_on_core on.core bench run.steps act).answer ≡ answer.Pumped done came → TellNoTakes (effect_of found run asked).events }
     ensures drive { (told : Told) (commands : List Command) (found : ImageAnswer) (asked : Command) (place count caller : ℕ) (on : NamedCoreState) → AreRunnable commands
         → let run = (run_of told commands).last in
-        slice_get run.objects.cores place ≡ Some on → done_on_core run place (line_of asked) ≡ Some (under.Core (core.Drive count))
+        slice_get run.objects.cores place ≡ Some on → core_act_at run place (line_of asked) ≡ Some (under.Core (core.Drive count))
         → lines_of caller (effect_of found run asked).events ≡ drive_lines run.objects.is_quiet on.name caller (core_takes on run.steps (under.Core (core.Drive count))) }
 {}
