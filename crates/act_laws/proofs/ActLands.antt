@@ -12,9 +12,9 @@ use Rattle.link_bench.specs.declared.benches.BegunCall.{BegunCall}
 use Rattle.link_bench.specs.declared.benches.Reach.TheVariants as reach
 use Rattle.link_bench.specs.ActParts.{ActPart, Advances, Begins, Calls, Joins, Reclaims, Sees, bench_after}
 use Rattle.link_bench.specs.BenchCrashes.{reclaim_leaves_at}
-use Rattle.link_bench.specs.Benches.{BenchState, BenchWalk, IsSendable, advance_steps, begin_walk, begun_call_of, bench_walk, call_steps, is_in_call, later_steps, link_in, on_rings, with_begun, with_new_caller}
+use Rattle.link_bench.specs.Benches.{BenchState, BenchWalk, IsSendable, advance_steps, begin_walk, begun_call_of, bench_walk, call_steps, is_in_call, later_steps, link_in, on_rings, with_begun_call, with_new_caller}
 use Rattle.link_bench.proofs.ActParts.{MayPart}
-use Rattle.link_bench.proofs.Begun.{begin_may}
+use Rattle.link_bench.proofs.BegunCalls.{begin_may}
 use Rattle.act_laws.specs.Deeds.{Deeds, advance_deeds, call_moves, caller_deeds, deeds_then, later_moves, no_deeds, part_deeds, reclaim_deeds, walk_deeds}
 use Rattle.act_laws.proofs.Lands.{Lands, call_walks, counted_lands, lands_none, lands_then, later_walks, walks_none}
 
@@ -49,7 +49,7 @@ pub advance_lands : (bench : BenchState) (more steps caller : ℕ) (found : Opti
 advance_lands bench more steps caller (Some call) may =
     let moves = λ (count : ℕ). call_moves count caller call.follows call.wish in
     cond_both (steps == STEPS_MOST) (record { bench = bench; steps = steps; reach = reach.Limit })
-    (bench_walk (with_begun bench caller None) (call_steps on_rings more steps bench.rings caller call.follows call.wish))
+    (bench_walk (with_begun_call bench caller None) (call_steps on_rings more steps bench.rings caller call.follows call.wish))
     (λ (walk : BenchWalk). LandsAt bench (walk_deeds caller walk (moves (walk.steps - steps))) walk.bench)
     (λ _. counted_lands bench.rings steps caller moves (record { link = bench.rings; steps = steps; reach = reach.Limit }) (walks_none bench.rings steps caller moves reach.Limit refl (λ end. refl)))
     (λ _. counted_lands bench.rings steps caller moves (call_steps on_rings more steps bench.rings caller call.follows call.wish) (call_walks more steps bench.rings caller call.follows call.wish may))

@@ -18,8 +18,8 @@ use Rattle.link_bench.specs.BenchCrashes.{after_close}
 use Rattle.link_bench.specs.BenchEnds.{is_first, is_remote, without_one, without_other}
 use Rattle.link_bench.specs.Benches.{BenchState, advance_steps, begun_call_of, call_walk, is_in_call, link_in, start_walk}
 use Rattle.link_bench.specs.Watchers.{Seeing}
-use Rattle.core_actors.specs.declared.progress.Driven.{Driven}
-use Rattle.core_actors.specs.declared.progress.Driven.TheVariants as driven
+use Rattle.core_actors.specs.declared.progress.DriveOutcome.{DriveOutcome}
+use Rattle.core_actors.specs.declared.progress.DriveOutcome.TheVariants as driven
 use Rattle.core_actors.specs.ActorSteps.{first_or_take}
 use Rattle.crash_recover.specs.declared.core_answers.Crash.{Crash}
 use Rattle.crash_recover.specs.declared.core_answers.Crash.TheVariants as crash
@@ -147,7 +147,7 @@ module _ (end : End) where
   reported_none (Ok crash.Limit) found = refl
   reported_none (Err why) found = refl
 
-  record_none : (came : Driven) (core : CoreState) → TellsNone (record_deeds came core)
+  record_none : (came : DriveOutcome) (core : CoreState) → TellsNone (record_deeds came core)
   record_none (driven.Worker fault closed) core = reported_none (report_of true core).answer core.bench
   record_none (driven.Crashed kind closed) core = reported_none (report_of true core).answer core.bench
   record_none driven.Idle core = refl

@@ -1,11 +1,8 @@
 -- The deeds of a crash, of a recovery and of the actors of a core leave what these leave of its link.
-use Rattle.std.proofs.Common.{◌≡◌, ℕ, zero, suc, ◌+◌, ◌==◌, Bool, true, false, cond, List, Option, Some, None, option_map, Result, Ok, Err, refl, sym, subst, ◌∙◌}
+use Rattle.std.proofs.Common.{◌≡◌, ℕ, zero, suc, ◌+◌, ◌==◌, Bool, true, false, cond, List, Option, Some, None, option_map, Ok, refl, sym, subst, ◌∙◌}
 use Rattle.rp_base.specs.declared.kinds.End.{End}
 use Rattle.rp_base.specs.declared.kinds.End.TheVariants as side
 use Rattle.proc_state.specs.declared.answers.LifeFault.{LifeFault}
-use Rattle.proc_state.specs.declared.answers.Report.{Report}
-use Rattle.proc_state.specs.declared.answers.Report.TheVariants as report
-use Rattle.proc_state.specs.Lives.{CoreLife, life_after_crash}
 use Rattle.lane_model.specs.declared.calls.Wish.{Wish}
 use Rattle.lane_model.specs.declared.recoveries.ReclaimRefusal.{ReclaimRefusal}
 use Rattle.lane_model.specs.Lanes.{holder}
@@ -18,16 +15,19 @@ use Rattle.link_bench.specs.BenchCrashes.{after_close, after_reclaim}
 use Rattle.link_bench.specs.BenchEnds.{bench_to_reopen, crashed_bench, is_first, is_remote, with_fresh_caller, with_new_host_unless, without_one, without_other, without_others, without_remote}
 use Rattle.link_bench.specs.Benches.{BenchState, BenchWalk, advance_walk, begun_call_of, is_in_call, link_in, start_walk}
 use Rattle.link_bench.proofs.Lists.{reclaim_lists}
-use Rattle.core_actors.specs.declared.progress.Driven.{Driven}
-use Rattle.core_actors.specs.declared.progress.Driven.TheVariants as driven
-use Rattle.crash_recover.specs.CoreCrashes.{first_report, report_as, report_of}
-use Rattle.crash_recover.specs.Cores.{CoreState}
+use Rattle.core_actors.specs.declared.progress.DriveOutcome.{DriveOutcome}
+use Rattle.core_actors.specs.declared.progress.DriveOutcome.TheVariants as driven
+use Rattle.crash_recover.specs.declared.core_answers.Crash.{Crash}
+use Rattle.crash_recover.specs.declared.core_answers.Crash.TheVariants as crash
+use Rattle.crash_recover.specs.CoreCrashes.{report_of}
+use Rattle.crash_recover.specs.Cores.{CoreOutcome, CoreState}
 use Rattle.core_actors.specs.ActorSteps.{first_or_take, link_step}
 use Rattle.core_actors.proofs.ReadyActors.{MayBegin}
 use Rattle.crash_recover.specs.Drives.{DriveStep, core_with_report, drive_step, placed_map, run_by, step_with_report}
 use Rattle.core_laws.specs.BenchMoves.{IsReachedBench, IsReachedCore}
 use Rattle.core_laws.proofs.BenchMoves.{reclaimable_is_shut}
 use Rattle.core_laws.specs.DriveParts.{MayDrive}
+use Rattle.core_laws.proofs.CallOutcomes.{GoesDown, ReportOutcome, report_outcome}
 use Rattle.core_laws.proofs.CoreMoves.{StandsReady, host_may, link_reached, turned_stands, worker_may}
 use Rattle.core_laws.proofs.DriveWalks.{HoldOfParts, both_known, drive_walk}
 use Rattle.crash_recover.proofs.KeptCrashes.{close_shut}
@@ -133,21 +133,16 @@ stays_if : (found : Option BenchState) → LandsIf found no_deeds found
 stays_if None = tt
 stays_if (Some bench) = stays bench
 
-first_lands : (may_step : Bool) (life : CoreLife) (core : CoreState) (found : Option BenchState) → core.bench ≡ found
-    → LandsIf found (reported_deeds (first_report may_step life core found).answer found) (first_report may_step life core found).core.bench
-first_lands may_step life core None none = subst (λ (now : Option BenchState). LandsIf None no_deeds (option_map crashed_bench now)) (sym none) tt
-first_lands true life core (Some bench) found = subst (λ (now : Option BenchState). LandsIf (Some bench) (crash_deeds bench) (option_map crashed_bench now)) (sym found) (crash_lands bench)
-first_lands false life core (Some bench) found = subst (λ (now : Option BenchState). LandsIf (Some bench) no_deeds now) (sym found) (stays bench)
+crash_lands_if : (closed : Option ℕ) (found : Option BenchState) → LandsIf found (reported_deeds (Ok (crash.First closed)) found) (option_map crashed_bench found)
+crash_lands_if closed None = tt
+crash_lands_if closed (Some bench) = crash_lands bench
 
-report_at : (may_step : Bool) (life : CoreLife) (answer : Result Report LifeFault) (core : CoreState)
-    → LandsIf core.bench (reported_deeds (report_as may_step life answer core).answer core.bench) (report_as may_step life answer core).core.bench
-report_at may_step life (Err why) core = stays_if core.bench
-report_at may_step life (Ok report.Already) core = stays_if core.bench
-report_at may_step life (Ok report.First) core = first_lands may_step life core core.bench refl
+outcome_lands : {may_step : Bool} (core : CoreState) {out : CoreOutcome Crash LifeFault} → ReportOutcome may_step core out → LandsIf core.bench (reported_deeds out.answer core.bench) out.core.bench
+outcome_lands core (GoesDown first closed was) = crash_lands_if closed core.bench
+outcome_lands core came = stays_if core.bench
 
 pub report_lands : (may_step : Bool) (core : CoreState) → LandsIf core.bench (reported_deeds (report_of may_step core).answer core.bench) (report_of may_step core).core.bench
-unfolding report_of
-report_lands may_step core = report_at may_step (life_after_crash core.life).life (life_after_crash core.life).answer core
+report_lands may_step core = outcome_lands core (report_outcome may_step core)
 
 -- ---- steps of the actors
 
@@ -160,7 +155,7 @@ step_lands bench caller calls may reached =
     (λ in_call. advance_lands bench 0 0 caller (begun_call_of bench caller) ((may_act bench reached).go caller in_call))
     (λ none. begin_lands bench 0 0 caller wanted (may none))
 
-reported_lands : (came : Driven) (core : CoreState) → LandsIf core.bench (record_deeds came core) (core_with_report came core).bench
+reported_lands : (came : DriveOutcome) (core : CoreState) → LandsIf core.bench (record_deeds came core) (core_with_report came core).bench
 reported_lands driven.Idle core = stays_if core.bench
 reported_lands driven.Stepped core = stays_if core.bench
 reported_lands (driven.Ended caller end) core = stays_if core.bench

@@ -17,8 +17,8 @@ use Rattle.link_bench.specs.declared.benches.Reach.TheVariants as reach
 use Rattle.link_bench.specs.Benches.{BenchState, begun_call_of, is_in_call, link_in, start_walk}
 use Rattle.crash_recover.specs.declared.core_answers.Crash.{Crash}
 use Rattle.crash_recover.specs.declared.core_answers.Crash.TheVariants as crash
-use Rattle.core_actors.specs.declared.progress.Driven.{Driven}
-use Rattle.core_actors.specs.declared.progress.Driven.TheVariants as driven
+use Rattle.core_actors.specs.declared.progress.DriveOutcome.{DriveOutcome}
+use Rattle.core_actors.specs.declared.progress.DriveOutcome.TheVariants as driven
 use Rattle.crash_recover.specs.CoreCrashes.{report_of}
 use Rattle.crash_recover.specs.Cores.{CoreState}
 use Rattle.core_laws.specs.DriveParts.{beside_drive}
@@ -86,7 +86,7 @@ actor_link_deeds None caller wanted = no_deeds
 actor_link_deeds (Some bench) caller wanted = link_deeds bench caller wanted
 
 -- a record of the worker may report a crash
-abbrev pub record_deeds : Driven → CoreState → Deeds
+abbrev pub record_deeds : DriveOutcome → CoreState → Deeds
 record_deeds (driven.Worker fault closed) core = reported_deeds (report_of true core).answer core.bench
 record_deeds (driven.Crashed kind closed) core = reported_deeds (report_of true core).answer core.bench
 record_deeds driven.Idle core = no_deeds
@@ -98,7 +98,7 @@ abbrev pub drive_deeds : CoreState → Deeds
 drive_deeds core = beside_drive no_deeds actor_link_deeds record_deeds core
 
 -- what a step of the actors that was this tells of takes at an end, on the link that it left: the handing where it ended a call as a take
-abbrev pub driven_takes : Driven → Option BenchState → End → List Handing
+abbrev pub driven_takes : DriveOutcome → Option BenchState → End → List Handing
 driven_takes (driven.Ended caller came) (Some bench) end = reach_takes (link_in bench) caller (reach.Ended came) end
 driven_takes (driven.Ended caller came) None end = []
 driven_takes other found end = []

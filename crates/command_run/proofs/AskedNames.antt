@@ -8,7 +8,7 @@ use Rattle.rp_io.specs.Images.{text_name}
 use Rattle.command_run.specs.CoreLives.{image_bytes}
 use Rattle.command_run.specs.NamedCores.{NamedCoreState}
 use Rattle.command_run.specs.NamedImages.{ImageState}
-use Rattle.command_run.specs.Runs.{ObjectsState, core_named, core_place, find_core, has_image, outside_image, place_of}
+use Rattle.command_run.specs.Runs.{ObjectsState, core_under, core_place, find_core, has_image, outside_image, place_of}
 
 -- ---- what is found, and where
 
@@ -59,17 +59,17 @@ pub asked_outside : (images : List ImageState) (name : List ℕ) → has_image i
 asked_outside images name new = ap (λ (b : Bool). cond b None (text_name name)) new
 
 -- a core whose name no link has
-pub core_without_link : (objects : ObjectsState) (name : List ℕ) → None ≡ place_of objects.links name → core_named objects name ≡ find_core objects.cores name
+pub core_without_link : (objects : ObjectsState) (name : List ℕ) → None ≡ place_of objects.links name → core_under objects name ≡ find_core objects.cores name
 core_without_link objects name none = ap (λ (place : Option ℕ). cond (is_some place) None (find_core objects.cores name)) (sym none)
 
 -- the core at a place, where no link has the name
 pub core_at_place : (objects : ObjectsState) (name : List ℕ) (place : ℕ) (named : NamedCoreState) → None ≡ place_of objects.links name → Some place ≡ core_place objects.cores name
-    → slice_get objects.cores place ≡ Some named → core_named objects name ≡ Some named
+    → slice_get objects.cores place ≡ Some named → core_under objects name ≡ Some named
 core_at_place objects name place named none placed there =
     core_without_link objects name none ∙ found_at (λ (named : NamedCoreState). bytes_eq named.name name) objects.cores place named (sym placed) there
 
 -- no core of the name
-pub core_nowhere : (objects : ObjectsState) (name : List ℕ) → None ≡ place_of objects.links name → core_place objects.cores name ≡ None → core_named objects name ≡ None
+pub core_nowhere : (objects : ObjectsState) (name : List ℕ) → None ≡ place_of objects.links name → core_place objects.cores name ≡ None → core_under objects name ≡ None
 core_nowhere objects name none placed =
     core_without_link objects name none ∙ found_nowhere (λ (named : NamedCoreState). bytes_eq named.name name) objects.cores placed
 

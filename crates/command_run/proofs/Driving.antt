@@ -9,8 +9,8 @@ use Rattle.crash_recover.specs.Cores.{CoreState, LoadState}
 use Rattle.link_bench.specs.Benches.{BenchState}
 use Rattle.core_actors.specs.declared.actors.Actor.{Actor}
 use Rattle.core_actors.specs.declared.actors.Actor.TheVariants as actor
-use Rattle.core_actors.specs.declared.progress.Driven.{Driven}
-use Rattle.core_actors.specs.declared.progress.Driven.TheVariants as driven
+use Rattle.core_actors.specs.declared.progress.DriveOutcome.{DriveOutcome}
+use Rattle.core_actors.specs.declared.progress.DriveOutcome.TheVariants as driven
 use Rattle.core_actors.specs.ActorSteps.{has_calls}
 use Rattle.crash_recover.specs.CoreCrashes.{first_report, report_as, report_of}
 use Rattle.crash_recover.specs.Drives.{DriveStep, actor_step, actor_to_step, core_with_report, drive_step, host_step, is_idle, placed_map, record_run, record_step, run_by, step_with_report, with_turn_after, worker_call}
@@ -26,7 +26,7 @@ use Rattle.proc_state.specs.declared.answers.Report.{Report}
 use Rattle.proc_state.specs.declared.answers.Report.TheVariants as report
 use Rattle.rp_base.specs.declared.kinds.LifeState.TheVariants.{Crashed}
 use Rattle.command_run.specs.CoreDrives.{IsDriven, drive_effect, drive_end, drive_steps, is_crashed, is_over, rest_event, rests_or, step_events, step_then, effect_behind}
-use Rattle.command_run.proofs.Handed.{front_of_more, hands_front, hands_kept, hands_more}
+use Rattle.command_run.proofs.HandedLines.{front_of_more, hands_front, hands_kept, hands_more}
 use Rattle.link_commands.proofs.Transcripts.{transcript-append}
 
 module _ (name : List ℕ) (is_quiet : Bool) where
@@ -134,7 +134,7 @@ report_driven None core is = is
 report_driven (Some report.First) core is = first_driven (record core.life { state = Crashed }) core core.bench refl
 report_driven (Some report.Already) core is = is
 
-reported_driven : (came : Driven) (core : CoreState) → IsDriven core → IsDriven (core_with_report came core)
+reported_driven : (came : DriveOutcome) (core : CoreState) → IsDriven core → IsDriven (core_with_report came core)
 unfolding report_of
 reported_driven driven.Idle core is = is
 reported_driven driven.Stepped core is = is

@@ -1,4 +1,4 @@
-pub mod Handed
+pub mod HandedLines
 pub mod RunSteps
 pub mod Driving
 pub mod FoundDumps
@@ -6,4 +6,4 @@ pub mod AskedNames
 pub mod Shelves
 pub mod Placing
 pub mod CoreChannels
-pub mod Started
+pub mod StartEffects

@@ -23,8 +23,8 @@ use Rattle.link_commands.specs.declared.acts.CoreAct.TheVariants as core
 use Rattle.link_commands.specs.declared.acts.NamedAct.{NamedAct}
 use Rattle.link_commands.specs.declared.acts.NamedAct.TheVariants as under
 use Rattle.command_run.proofs.Driving.{keeps_same}
-use Rattle.command_run.proofs.Handed.{hands_kept}
-use Rattle.command_run.specs.Runs.{ObjectsState, RunState, RunEffect, effect_by_core_place, core_named, core_place, effect_of_core, effect_of_link, is_full, line_effect, effect_by_link_place, made_effect, name_effect, new_end, place_of, core_effect_at, link_effect_at, run_tells, unnamed_effect, with_links, without_link_effect}
+use Rattle.command_run.proofs.HandedLines.{hands_kept}
+use Rattle.command_run.specs.Runs.{ObjectsState, RunState, RunEffect, effect_by_core_place, core_under, core_place, effect_of_core, effect_of_link, is_full, line_effect, effect_by_link_place, made_effect, name_effect, new_end, place_of, core_effect_at, link_effect_at, run_tells, unnamed_effect, with_links, without_link_effect}
 
 -- a link of the same name with another bench
 with_bench : (now named : NamedLink) (bench : BenchState) → now.name ≡ named.name → now.bench ≡ bench → record named { bench = bench } ≡ now
@@ -194,7 +194,7 @@ pub drive_keeps : (run : RunState) (called : List ℕ) (count place : ℕ) (name
     → (KeepsLess before → KeepsWhole (λ done. (drive_effect named.name run.objects.is_quiet named.core run.steps done).events) count lines) → KeepsDriven run called count before lines
 drive_keeps run called count place named before lines bare placed found keeps =
     let same = λ (n : ℕ). ap (λ (e : RunEffect). e.events) (drive_placed (Err no_image.Missing) run called n place named bare placed found) in
-    if_driven (core_named run.objects called) (KeepsLess before → KeepsWhole (λ done. (line_effect (Err no_image.Missing) run (drive_line called done)).events) count lines)
+    if_driven (core_under run.objects called) (KeepsLess before → KeepsWhole (λ done. (line_effect (Err no_image.Missing) run (drive_line called done)).events) count lines)
     (λ less. keeps_same _ _ count _ _ lines same (same count) (keeps less))
 
 -- what a command did that handed on nothing

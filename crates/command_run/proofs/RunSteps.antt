@@ -4,29 +4,29 @@ use Rattle.script_lang.specs.declared.commands.Command.{Command}
 use Rattle.script_lang.specs.Runnable.{AreRunnable, IsRunnable}
 use Rattle.journal.specs.declared.events.Event.{Event}
 use Rattle.link_commands.specs.declared.stops.Stop.{Stop}
-use Rattle.command_run.specs.Stores.{Shelf, Told, answer_for, later_told, told_answer}
+use Rattle.command_run.specs.Stores.{Shelf, StoreAnswers, answer_for, later_answers, store_answer}
 use Rattle.rp_io.specs.declared.faults.NoImage.TheVariants as no_image
 use Rattle.link_commands.specs.Logs.{LogState}
 use Rattle.command_run.specs.Outcomes.{HandsRunEffect}
-use Rattle.command_run.specs.Runs.{AsksNone, IfGoesOn, ObjectsState, RunEffect, RunState, Run, asked_name, run_on, run_from, run_told, effect_of}
+use Rattle.command_run.specs.Runs.{AsksNone, IfGoesOn, ObjectsState, RunEffect, RunState, Run, asked_name, run_on, run_from, run_on_answer, effect_of}
 
 -- a run behind these events
 abbrev pub behind : List Event → Run → Run
 behind events run = record run { events = events ++ run.events }
 
 -- what is told at a command, and behind it
-abbrev pub first_told : Option Shelf → Told → Told
+abbrev pub first_told : Option Shelf → StoreAnswers → StoreAnswers
 first_told first later zero = first
 first_told first later (suc number) = later number
 
 -- a command before others
-pub run_first : (told : Told) (state : RunState) (first : Command) (more : List Command)
-    → run_from told state (first ∷ more) ≡ run_told state first (told_answer (told 0) (asked_name state.objects first)) (λ next. run_from (later_told told) next more)
+pub run_first : (told : StoreAnswers) (state : RunState) (first : Command) (more : List Command)
+    → run_from told state (first ∷ more) ≡ run_on_answer state first (store_answer (told 0) (asked_name state.objects first)) (λ next. run_from (later_answers told) next more)
 unfolding run_from
 run_first told state first more = refl
 
 -- no command
-pub run_none : (told : Told) (state : RunState) → run_from told state [] ≡ record { events = []; last = state; ending = None; failed = false }
+pub run_none : (told : StoreAnswers) (state : RunState) → run_from told state [] ≡ record { events = []; last = state; ending = None; failed = false }
 unfolding run_from
 run_none told state = refl
 
@@ -44,7 +44,7 @@ rest_behind : (effect : RunEffect) (ending : Option Stop) (later : Run) → run_
 rest_behind effect (Some why) later = ap (λ (events : List Event). record { events = events; last = effect.run; ending = Some why; failed = false }) (sym (append-nil effect.events))
 rest_behind effect None later = refl
 
-pub run_behind : (shelf : Shelf) (later : Told) (state : RunState) (first : Command) (more : List Command)
+pub run_behind : (shelf : Shelf) (later : StoreAnswers) (state : RunState) (first : Command) (more : List Command)
     → run_from (first_told (Some shelf) later) state (first ∷ more)
     ≡ behind (effect_over shelf state first).events (run_rest (effect_over shelf state first) (effect_over shelf state first).ending (run_from later (effect_over shelf state first).run more))
 run_behind shelf later state first more =
@@ -52,11 +52,11 @@ run_behind shelf later state first more =
     run_first (first_told (Some shelf) later) state first more ∙ rest_behind effect effect.ending (run_from later effect.run more)
 
 -- a run whose store fails at its first command
-pub run_fails : (later : Told) (state : RunState) (first : Command) (more : List Command) (name : List ℕ) → asked_name state.objects first ≡ Some name
+pub run_fails : (later : StoreAnswers) (state : RunState) (first : Command) (more : List Command) (name : List ℕ) → asked_name state.objects first ≡ Some name
     → run_from (first_told None later) state (first ∷ more) ≡ record { events = []; last = state; ending = None; failed = true }
 run_fails later state first more name asks =
     run_first (first_told None later) state first more
-    ∙ ap (λ asked. run_told state first (told_answer None asked) (λ next. run_from later next more)) asks
+    ∙ ap (λ asked. run_on_answer state first (store_answer None asked) (λ next. run_from later next more)) asks
 
 -- what is left at a place is the item there and what is left behind it
 pub left_at : {X : Type 0} (items : List X) (i : ℕ) (item : X) → i < length items → item ≡ get_or items i item

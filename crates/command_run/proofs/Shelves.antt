@@ -4,17 +4,17 @@ use Rattle.rp_io.specs.declared.faults.NoImage.TheVariants as no_image
 use Rattle.rp_io.specs.Images.{ImageAnswer, IsToldFor, fetch_answer}
 use Rattle.script_lang.specs.declared.commands.Command.{Command}
 use Rattle.link_commands.specs.declared.stops.Stop.{Stop}
-use Rattle.command_run.specs.Stores.{IsHeld, IsHeldAt, IsShelf, IsTold, IsToldAt, Shelf, Told, answer_for, later_told, store_of, told_answer}
-use Rattle.command_run.specs.Runs.{Run, RunEffect, RunState, asked_name, effect_of, run_from, run_on, run_told}
+use Rattle.command_run.specs.Stores.{IsHeld, IsHeldAt, IsShelf, IsTold, IsToldAt, Shelf, StoreAnswers, answer_for, later_answers, store_of, store_answer}
+use Rattle.command_run.specs.Runs.{Run, RunEffect, RunState, asked_name, effect_of, run_from, run_on, run_on_answer}
 use Rattle.command_run.proofs.RunSteps.{first_told, run_first, run_none}
 
 -- what was told at the commands so far, and behind them
-abbrev pub told_then : List Shelf → Told → Told
+abbrev pub told_then : List Shelf → StoreAnswers → StoreAnswers
 told_then [] later = later
 told_then (first ∷ more) later = first_told (Some first) (told_then more later)
 
 -- one more command was told
-pub told_more : (shelves : List Shelf) (shelf : Shelf) (later : Told) → told_then (shelves ++ shelf ∷ []) later ≡ told_then shelves (first_told (Some shelf) later)
+pub told_more : (shelves : List Shelf) (shelf : Shelf) (later : StoreAnswers) → told_then (shelves ++ shelf ∷ []) later ≡ told_then shelves (first_told (Some shelf) later)
 told_more [] shelf later = refl
 told_more (first ∷ more) shelf later = ap (first_told (Some first)) (told_more more shelf later)
 
@@ -28,7 +28,7 @@ shelves_more images [] shelf are is = (is, tt)
 shelves_more images (first ∷ more) shelf are is = (are.0, shelves_more images more shelf are.1 is)
 
 -- a store that never fails
-abbrev pub any_told : Option (List (List ℕ × List ℕ)) → Told
+abbrev pub any_told : Option (List (List ℕ × List ℕ)) → StoreAnswers
 any_told None number = Some (λ name. Err no_image.Missing)
 any_told (Some images) number = Some (fetch_answer images)
 
@@ -37,7 +37,7 @@ any_held None number = tt
 any_held (Some images) number = refl
 
 -- and one that fails at its next command
-abbrev pub fault_next : Option (List (List ℕ × List ℕ)) → Told
+abbrev pub fault_next : Option (List (List ℕ × List ℕ)) → StoreAnswers
 fault_next images = first_told None (any_told images)
 
 held_told : (images : Option (List (List ℕ × List ℕ))) (shelf : Option Shelf) → IsHeldAt images shelf → IsToldAt images shelf
@@ -48,7 +48,7 @@ pub fault_told : (images : Option (List (List ℕ × List ℕ))) → IsTold imag
 fault_told images zero = tt
 fault_told images (suc number) = held_told images (any_told images number) (any_held images number)
 
-module _ (images : Option (List (List ℕ × List ℕ))) (later : Told) where
+module _ (images : Option (List (List ℕ × List ℕ))) (later : StoreAnswers) where
   -- a store that didn't fail so far, and doesn't later
   pub then_held : (shelves : List Shelf) → AreShelves images shelves → IsHeld images later → IsHeld images (told_then shelves later)
   then_held [] are is number = is number
@@ -76,13 +76,13 @@ held_at images (Some shelf) is = ap (λ (s : Shelf). Some s) is
 
 module _ (images : List (List ℕ × List ℕ)) where
   -- so the run over it is one over the images alone
-  pub held_run : (told : Told) (state : RunState) (commands : List Command) → IsHeld (Some images) told → run_from told state commands ≡ run_from (store_of images) state commands
+  pub held_run : (told : StoreAnswers) (state : RunState) (commands : List Command) → IsHeld (Some images) told → run_from told state commands ≡ run_from (store_of images) state commands
   held_run told state [] is = run_none told state ∙ sym (run_none (store_of images) state)
   held_run told state (first ∷ more) is =
       let effect = effect_of (answer_for (fetch_answer images) (asked_name state.objects first)) state first in
       run_first told state first more
-      ∙ ap (λ shelf. run_told state first (told_answer shelf (asked_name state.objects first)) (λ next. run_from (later_told told) next more)) (held_at images (told 0) (is 0))
-      ∙ ap (run_on effect effect.ending) (held_run (later_told told) effect.run more (λ number. is (suc number)))
+      ∙ ap (λ shelf. run_on_answer state first (store_answer shelf (asked_name state.objects first)) (λ next. run_from (later_answers told) next more)) (held_at images (told 0) (is 0))
+      ∙ ap (run_on effect effect.ending) (held_run (later_answers told) effect.run more (λ number. is (suc number)))
       ∙ sym (run_first (store_of images) state first more)
 
 -- a run that goes on fails where the rest of it does
@@ -93,15 +93,15 @@ on_failed effect (Some why) later is = refl
 module _ (images : Option (List (List ℕ × List ℕ))) where
   -- and a store that doesn't fail at a command goes on with the rest
   told_failed : (shelf : Option Shelf) → IsHeldAt images shelf → (state : RunState) (first : Command) (later : RunState → Run) → ((next : RunState) → (later next).failed ≡ false)
-      → (run_told state first (told_answer shelf (asked_name state.objects first)) later).failed ≡ false
+      → (run_on_answer state first (store_answer shelf (asked_name state.objects first)) later).failed ≡ false
   told_failed None at state first later goes = absurd at
   told_failed (Some shelf) at state first later goes =
       let effect = effect_of (answer_for shelf (asked_name state.objects first)) state first in
       on_failed effect effect.ending (later effect.run) (goes effect.run)
 
   -- a run over a store that doesn't fail
-  pub held_failed : (told : Told) (state : RunState) (commands : List Command) → IsHeld images told → (run_from told state commands).failed ≡ false
+  pub held_failed : (told : StoreAnswers) (state : RunState) (commands : List Command) → IsHeld images told → (run_from told state commands).failed ≡ false
   held_failed told state [] is = ap (λ (run : Run). run.failed) (run_none told state)
   held_failed told state (first ∷ more) is =
       ap (λ (run : Run). run.failed) (run_first told state first more)
-      ∙ told_failed (told 0) (is 0) state first (λ next. run_from (later_told told) next more) (λ next. held_failed (later_told told) next more (λ number. is (suc number)))
+      ∙ told_failed (told 0) (is 0) state first (λ next. run_from (later_answers told) next more) (λ next. held_failed (later_answers told) next more (λ number. is (suc number)))

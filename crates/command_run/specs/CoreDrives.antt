@@ -11,8 +11,8 @@ use Rattle.journal.specs.declared.events.Event.{Event}
 use Rattle.journal.specs.declared.events.Event.TheVariants as event
 use Rattle.link_bench.specs.Benches.{BenchState, link_in}
 use Rattle.crash_recover.specs.Cores.{CoreState}
-use Rattle.core_actors.specs.declared.progress.Driven.{Driven}
-use Rattle.core_actors.specs.declared.progress.Driven.TheVariants as driven
+use Rattle.core_actors.specs.declared.progress.DriveOutcome.{DriveOutcome}
+use Rattle.core_actors.specs.declared.progress.DriveOutcome.TheVariants as driven
 use Rattle.crash_recover.specs.Drives.{DriveStep, drive_step, is_idle}
 use Rattle.link_commands.specs.CallEvents.{end_event}
 use Rattle.command_run.specs.CoreEffects.{CoreEffect, core_tells}
@@ -24,7 +24,7 @@ actor_end_events name caller end None = []
 actor_end_events name caller end (Some bench) = end_event name (link_in bench) caller end ∷ []
 
 -- what a step of the actors tells, by what it was and the link that it left; the ends of calls are not told by a drive that is quiet
-abbrev pub driven_events : List ℕ → Bool → Option BenchState → Driven → List Event
+abbrev pub driven_events : List ℕ → Bool → Option BenchState → DriveOutcome → List Event
 driven_events name is_quiet bench driven.Idle = []
 driven_events name is_quiet bench driven.Stepped = []
 driven_events name is_quiet bench (driven.Ended caller end) = if is_quiet then [] else actor_end_events name caller end bench

@@ -88,13 +88,13 @@ abbrev pub made_image : List ℕ → ImageAnswer
 made_image bytes = if nat_le (length bytes) IMAGE_MOST then Ok bytes else Err (no_image.TooLarge (length bytes))
 
 -- the same, or what the store tells
-abbrev pub found_or_told : ImageAnswer → Option (List ℕ) → ImageAnswer
-found_or_told answer (Some bytes) = made_image bytes
-found_or_told answer None = answer
+abbrev pub image_or : ImageAnswer → Option (List ℕ) → ImageAnswer
+image_or answer (Some bytes) = made_image bytes
+image_or answer None = answer
 
 -- the image of this name: the script's, or else what the store tells
 abbrev pub found_image : List ImageState → ImageAnswer → List ℕ → ImageAnswer
-found_image images answer image = found_or_told answer (image_bytes images image)
+found_image images answer image = image_or answer (image_bytes images image)
 
 -- the name of the image that a core was booted or handed over with (one that has none is offline, and not recovered)
 abbrev pub booted_image : List ℕ → CoreState → List ℕ

@@ -17,7 +17,7 @@ use Rattle.link_commands.specs.declared.acts.NamedAct.TheVariants as under
 use Rattle.link_commands.specs.declared.stops.Stop.{Stop}
 use Rattle.link_commands.specs.Acts.{line_of}
 use Rattle.command_run.specs.Stores.{IsShelf, Shelf, answer_for}
-use Rattle.command_run.specs.Runs.{ObjectsState, RunState, asked_name, core_named, effect_of, line_effect}
+use Rattle.command_run.specs.Runs.{ObjectsState, RunState, asked_name, core_under, effect_of, line_effect}
 use Rattle.link_commands.specs.Logs.{KeepsLess, LogState}
 use Rattle.command_run.specs.Outcomes.{CutsRun, HandsRunEffect, KeepsWhole}
 
@@ -56,7 +56,7 @@ pub record IsCutCommand (run : RunState) (asked : Command) (left : ObjectsState)
 -- the lines that are kept behind a drive of a core: with less than a piece kept before it, they are few, however long it was
 abbrev pub KeepsDriven : RunState → List ℕ → ℕ → LogState → List ℕ → Type 0
 KeepsDriven run name count before lines =
-    IfSome (core_named run.objects name) (λ _. KeepsLess before → KeepsWhole (λ done. (line_effect (Err no_image.Missing) run (drive_line name done)).events) count lines)
+    IfSome (core_under run.objects name) (λ _. KeepsLess before → KeepsWhole (λ done. (line_effect (Err no_image.Missing) run (drive_line name done)).events) count lines)
 
 -- the same of a command, if it is a drive
 abbrev pub KeepsDrive : RunState → Command → LogState → List ℕ → Type 0

@@ -20,8 +20,8 @@ link_or None core = option_and_then (λ (named : NamedCoreState). named.core.ben
 link_or (Some named) core = Some named.bench
 
 -- the link of this name, or that of the core of this name
-abbrev pub bench_named : ObjectsState → List ℕ → Option BenchState
-bench_named objects name = link_or (find_link objects.links name) (find_core objects.cores name)
+abbrev pub bench_under : ObjectsState → List ℕ → Option BenchState
+bench_under objects name = link_or (find_link objects.links name) (find_core objects.cores name)
 
 -- the item at this place
 abbrev pub item_at : {X : Type 0} → List X → Option ℕ → Option X
@@ -33,15 +33,15 @@ without items None = items
 without items (Some place) = take place items ++ drop (place + 1) items
 
 -- the link of this name that is taken out, and the run without it
-abbrev pub link_taken : ObjectsState → List ℕ → Option BenchState
-link_taken objects name = option_map (λ (named : NamedLink). named.bench) (item_at objects.links (place_of objects.links name))
+abbrev pub link_bench_under : ObjectsState → List ℕ → Option BenchState
+link_bench_under objects name = option_map (λ (named : NamedLink). named.bench) (item_at objects.links (place_of objects.links name))
 
 abbrev pub without_link : ObjectsState → List ℕ → ObjectsState
 without_link objects name = record objects { links = without objects.links (place_of objects.links name) }
 
 -- the core of this name that is taken out, and the run without it
-abbrev pub core_taken : ObjectsState → List ℕ → Option CoreState
-core_taken objects name = option_map (λ (named : NamedCoreState). named.core) (item_at objects.cores (core_place objects.cores name))
+abbrev pub core_state_under : ObjectsState → List ℕ → Option CoreState
+core_state_under objects name = option_map (λ (named : NamedCoreState). named.core) (item_at objects.cores (core_place objects.cores name))
 
 abbrev pub without_core : ObjectsState → List ℕ → ObjectsState
 without_core objects name = record objects { cores = without objects.cores (core_place objects.cores name) }

@@ -15,7 +15,7 @@ use Rattle.link_commands.specs.NamedLinks.{NamedLink}
 use Rattle.command_run.specs.NamedCores.{NamedCoreState}
 use Rattle.command_run.specs.NamedImages.{ImageState}
 use Rattle.rp_io.specs.declared.faults.NoImage.TheVariants as no_image
-use Rattle.command_run.specs.Stores.{Told, later_told, told_answer}
+use Rattle.command_run.specs.Stores.{StoreAnswers, later_answers, store_answer}
 use Rattle.command_run.specs.CoreEffects.{CoreEffect}
 use Rattle.command_run.specs.CoreCommands.{core_effect, is_on}
 use Rattle.command_run.specs.CoreLives.{start_name}
@@ -187,12 +187,12 @@ abbrev pub find_core : List NamedCoreState → List ℕ → Option NamedCoreStat
 find_core cores name = find (λ (named : NamedCoreState). bytes_eq named.name name) cores
 
 -- the core of this name, which no link has
-abbrev pub core_named : ObjectsState → List ℕ → Option NamedCoreState
-core_named objects name = if is_some (place_of objects.links name) then None else find_core objects.cores name
+abbrev pub core_under : ObjectsState → List ℕ → Option NamedCoreState
+core_under objects name = if is_some (place_of objects.links name) then None else find_core objects.cores name
 
 -- the dump of the core of a name that is kept as an image, or what is told in its place
 abbrev pub dump_answer : ObjectsState → List ℕ → List ℕ → Result (List ℕ) Event
-dump_answer objects name image = core_answer (has_image objects.images image) (kept_dumps objects.images) name image (core_named objects name)
+dump_answer objects name image = core_answer (has_image objects.images image) (kept_dumps objects.images) name image (core_under objects name)
 
 -- the run with a dump that is kept
 abbrev pub with_dump : RunState → List ℕ → List ℕ → RunState
@@ -244,7 +244,7 @@ core_act other = None
 
 -- the image for which the store is asked by an act on a core: by a start alone
 abbrev pub act_asks : ObjectsState → Option (List ℕ × CoreAct) → Option (List ℕ)
-act_asks objects (Some (name, core.Start start)) = start_image start objects.images (core_named objects name)
+act_asks objects (Some (name, core.Start start)) = start_image start objects.images (core_under objects name)
 act_asks objects other = None
 
 -- the image for which a command asks the store
@@ -264,24 +264,24 @@ run_on effect (Some why) later = record { events = effect.events; last = effect.
 run_on effect None later = record later { events = effect.events ++ later.events }
 
 -- a command and the later ones, where the store answers; else the run ends before the command
-abbrev pub run_told : RunState → Command → Option ImageAnswer → (RunState → Run) → Run
-run_told run command None later = record { events = []; last = run; ending = None; failed = true }
-run_told run command (Some answer) later =
+abbrev pub run_on_answer : RunState → Command → Option ImageAnswer → (RunState → Run) → Run
+run_on_answer run command None later = record { events = []; last = run; ending = None; failed = true }
+run_on_answer run command (Some answer) later =
     let effect = effect_of answer run command in
     run_on effect effect.ending (later effect.run)
 
 -- the run of these commands, from a state, over what the store tells
-unfoldable pub run_from : Told → RunState → List Command → Run
+unfoldable pub run_from : StoreAnswers → RunState → List Command → Run
 run_from told run [] = record { events = []; last = run; ending = None; failed = false }
 run_from told run (first ∷ more) =
-    run_told run first (told_answer (told 0) (asked_name run.objects first)) (λ next. run_from (later_told told) next more)
+    run_on_answer run first (store_answer (told 0) (asked_name run.objects first)) (λ next. run_from (later_answers told) next more)
 
 -- nothing is made, no step done, and drives are not quiet
 abbrev pub new_run : RunState
 new_run = record { objects = record { links = []; cores = []; images = []; is_quiet = false }; steps = 0 }
 
 -- the run of a script, over what the store tells
-abbrev pub run_of : Told → List Command → Run
+abbrev pub run_of : StoreAnswers → List Command → Run
 run_of told commands = run_from told new_run commands
 
 -- this holds of a run that goes on

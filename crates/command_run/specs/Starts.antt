@@ -25,8 +25,8 @@ use Rattle.command_run.specs.Runs.{outside_image, start_image, start_needs}
 
 -- what is known of an image that was looked for
 abbrev pub image_answer : FoundImage → ImageAnswer
-image_answer (found_image.Made bytes) = made_image bytes.now
-image_answer (found_image.Told found) = answer_of found
+image_answer (found_image.Script bytes) = made_image bytes.now
+image_answer (found_image.Store found) = answer_of found
 
 -- it is the image of this name: the script's, or else what was told of the one that the store was asked for
 pub record IsImageOf (images : Option (List (List ℕ × List ℕ))) (made : List ImageState) (name : List ℕ) (found : FoundImage) : Type 0 where

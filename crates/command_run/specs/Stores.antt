@@ -8,16 +8,16 @@ abbrev pub Shelf : Type 0
 Shelf = List ℕ → ImageAnswer
 
 -- what a store has under each name while the command of each number runs, counted from 0; none where it fails then
-abbrev pub Told : Type 0
-Told = ℕ → Option Shelf
+abbrev pub StoreAnswers : Type 0
+StoreAnswers = ℕ → Option Shelf
 
 -- what a store of these images has, at every command
-abbrev pub store_of : List (List ℕ × List ℕ) → Told
+abbrev pub store_of : List (List ℕ × List ℕ) → StoreAnswers
 store_of images number = Some (fetch_answer images)
 
 -- what is told at the commands behind the first
-abbrev pub later_told : Told → Told
-later_told told number = told (suc number)
+abbrev pub later_answers : StoreAnswers → StoreAnswers
+later_answers told number = told (suc number)
 
 -- what is told of the image that a command asks for; nothing, as of one that is missing, where it asks for none
 abbrev pub answer_for : Shelf → Option (List ℕ) → ImageAnswer
@@ -25,10 +25,10 @@ answer_for shelf None = Err no_image.Missing
 answer_for shelf (Some name) = shelf name
 
 -- what a command is told that asks for an image or for none; nothing where the store fails
-abbrev pub told_answer : Option Shelf → Option (List ℕ) → Option ImageAnswer
-told_answer None None = Some (Err no_image.Missing)
-told_answer None (Some name) = None
-told_answer (Some shelf) asked = Some (answer_for shelf asked)
+abbrev pub store_answer : Option Shelf → Option (List ℕ) → Option ImageAnswer
+store_answer None None = Some (Err no_image.Missing)
+store_answer None (Some name) = None
+store_answer (Some shelf) asked = Some (answer_for shelf asked)
 
 -- a store of these images has that; of one that doesn't tell its images nothing is known
 abbrev pub IsShelf : Option (List (List ℕ × List ℕ)) → Shelf → Type 0
@@ -46,9 +46,9 @@ IsHeldAt images None = ⊥
 IsHeldAt images (Some shelf) = IsShelf images shelf
 
 -- at each command the store tells that, or it fails
-abbrev pub IsTold : Option (List (List ℕ × List ℕ)) → Told → Type 0
+abbrev pub IsTold : Option (List (List ℕ × List ℕ)) → StoreAnswers → Type 0
 IsTold images told = (number : ℕ) → IsToldAt images (told number)
 
 -- at each command the store tells that, and it fails at none
-abbrev pub IsHeld : Option (List (List ℕ × List ℕ)) → Told → Type 0
+abbrev pub IsHeld : Option (List (List ℕ × List ℕ)) → StoreAnswers → Type 0
 IsHeld images told = (number : ℕ) → IsHeldAt images (told number)

@@ -16,7 +16,7 @@ ghost use Rattle.command_run.specs.CoreLives.{crash_events};
 ghost use Rattle.command_run.specs.CoreDrives.{IsDriven, actor_end_events, drive_effect, drive_end, drive_steps, driven_events, is_crashed, is_over, rest_event, step_events};
 
 use crate::{NamedCore, OutputFault};
-use crash_recover::{Driven, Reach};
+use crash_recover::{DriveOutcome, Reach};
 use journal::Event;
 use lane_model::CallEnd;
 use link_commands::{RunLog, Stop, event, tell_reach};
@@ -135,7 +135,7 @@ impl NamedCore {
         ensures most { IfOk result (λ left. count ≤ left + most) }
         ensures over { IfOk result (λ left. (left + most ≡ count) ⊎ (is_over self.old.name self.new.core log.new.steps ≡ true)) }
     {
-        let mut driven = Driven::Idle;
+        let mut driven = DriveOutcome::Idle;
         for done in 0..most {
             if self.is_over(log.steps()) {
                 return Ok(count - done);
@@ -189,7 +189,7 @@ impl NamedCore {
     fn drive_on(
         &mut self,
         is_quiet: bool,
-        driven: &mut Driven,
+        driven: &mut DriveOutcome,
         log: &mut RunLog,
     ) -> Result<bool, NoMemory>
         requires { is_up self.old.core.life.state ≡ true }
@@ -199,22 +199,27 @@ impl NamedCore {
         ensures told { IfOk result (λ _. Keeps log.old log.new (step_events self.old.name is_quiet (drive_step self.old.core))) }
     {
         self.core.drive_on(log.alloc(), driven)?;
-        self.tell_driven(driven, is_quiet, log)?;
+        self.tell_drive_step(driven, is_quiet, log)?;
         Ok(!driven.is_rest())
     }
 
     /// Tells what a step of the actors was.
     #[inline(always)]
-    fn tell_driven(&self, driven: &Driven, is_quiet: bool, log: &mut RunLog) -> Result<(), NoMemory>
+    fn tell_drive_step(
+        &self,
+        driven: &DriveOutcome,
+        is_quiet: bool,
+        log: &mut RunLog,
+    ) -> Result<(), NoMemory>
         requires { IfSome self.now.core.bench (λ bench. HoldsDrivenTaken (link_in bench) driven.now) }
         ensures { IfOk result (λ _. Keeps log.old log.new (driven_events self.now.name is_quiet self.now.core.bench driven.now)) }
     {
         match driven {
-            Driven::Idle | Driven::Stepped => Ok(()),
-            Driven::Ended(_, _) if is_quiet => Ok(()),
-            Driven::Ended(caller, end) => self.tell_end(*caller, end, log),
-            Driven::Worker(fault, closed) => self.tell_fault(*fault, *closed, log),
-            Driven::Crashed(kind, closed) => self.tell_crash(*kind, *closed, log),
+            DriveOutcome::Idle | DriveOutcome::Stepped => Ok(()),
+            DriveOutcome::Ended(_, _) if is_quiet => Ok(()),
+            DriveOutcome::Ended(caller, end) => self.tell_end(*caller, end, log),
+            DriveOutcome::Worker(fault, closed) => self.tell_fault(*fault, *closed, log),
+            DriveOutcome::Crashed(kind, closed) => self.tell_crash(*kind, *closed, log),
         }
     }
 

@@ -82,7 +82,7 @@ impl Objects {
             is_taken: has_image(self.images.as_slice(), image.bytes()),
             kept: kept_dumps(self.images.as_slice()),
         };
-        match self.core_named(name.bytes()) {
+        match self.core_under(name.bytes()) {
             Some(named) => dump_core(self.alloc, &wish, &named.core),
             None => Ok(Err(Event::Unknown { name })),
         }

@@ -9,23 +9,23 @@ ghost use Rattle.command_run.specs.CoreLives.{found_image, image_bytes};
 ghost use Rattle.command_run.specs.Runs.{asked_name, core_act, outside_image};
 ghost use Rattle.command_run.specs.Fetches.{KeepsDrive, RunsTold};
 ghost use Rattle.command_run.specs.Starts.{IsImageOf, image_answer};
-ghost use Rattle.link_commands.specs.Acts.{line_of};
+ghost use Rattle.link_commands.specs.Acts.{bare_line};
 
 use crate::faults::CommandFault;
 use crate::{Objects, ScriptImage};
 use link_commands::{CoreAct, Line, NamedAct, RunLog, Stop, line_of};
 use rp_base::{IMAGE_MOST, Name};
 use rp_io::{FirmwareStore, NoImage, Sink, StoreFault, bytes_of, look_up_bytes};
-use script_lang::Command;
+use script_lang::{Command, Recipe};
 use std::alloc::Global;
 
 /// An image that was looked for.
 #[derive(Drop)]
 pub enum FoundImage<'a> {
     /// The script made it: its bytes.
-    Made(&'a [u8]),
+    Script(&'a [u8]),
     /// The script didn't make it, and the store has this under its name.
-    Told(Result<Vec<u8>, NoImage>),
+    Store(Result<Vec<u8>, NoImage>),
 }
 
 impl FoundImage<'_> {
@@ -34,11 +34,11 @@ impl FoundImage<'_> {
         ensures { result_map_both (λ bytes. bytes.now) (λ why. why) result ≡ image_answer self.now }
     {
         match self {
-            FoundImage::Made(bytes) if bytes.len() > IMAGE_MOST => {
+            FoundImage::Script(bytes) if bytes.len() > IMAGE_MOST => {
                 Err(NoImage::TooLarge(bytes.len() as u64))
             }
-            FoundImage::Made(bytes) => Ok(bytes),
-            FoundImage::Told(found) => bytes_of(found),
+            FoundImage::Script(bytes) => Ok(bytes),
+            FoundImage::Store(found) => bytes_of(found),
         }
     }
 }
@@ -64,24 +64,24 @@ pub fn run_command<F: FirmwareStore, K: Sink>(
     ensures kept { F.images store.new ≡ F.images store.old }
     ensures unasked { asked_name objects.old command.now ≡ None → store.new ≡ store.old }
 {
-    match core_act(command) {
+    let line = line_of(command);
+    match core_act(&line) {
         Some((name, act)) => match act {
             CoreAct::Drive { count } => Ok(objects.drive(name, count, log, out)?),
             CoreAct::Start(start) => Ok(objects.start(name, start, store, log)?),
-            _ => Ok(objects.run(command, log)?),
+            _ => Ok(objects.run_line(&line, log)?),
         },
-        None => Ok(objects.run(command, log)?),
+        None => Ok(objects.run_line(&line, log)?),
     }
 }
 
 /// The act on a core that a command is about, with the core's name.
-fn core_act(command: &Command) -> Option<(Name, CoreAct)>
-    requires { IsRunnable command.now }
-    ensures { result ≡ core_act (line_of command.now) }
+fn core_act(line: &Line<&Recipe, &[u8]>) -> Option<(Name, CoreAct)>
+    ensures { result ≡ core_act (bare_line (λ recipe. recipe.now) (λ bytes. bytes.now) line.now) }
 {
-    match line_of(command) {
+    match line {
         Line::On { name, act } => match act {
-            NamedAct::Core(act) => Some((name, act)),
+            NamedAct::Core(act) => Some((*name, *act)),
             _ => None,
         },
         _ => None,
@@ -104,9 +104,9 @@ pub(crate) fn find_image<'a, F: FirmwareStore>(
     ensures unasked { outside_image images.now name.now ≡ None → store.new ≡ store.old }
 {
     if let Some(bytes) = image_bytes(images, name) {
-        return Ok(FoundImage::Made(bytes));
+        return Ok(FoundImage::Script(bytes));
     }
-    Ok(FoundImage::Told(look_up_bytes(alloc, store, name)?))
+    Ok(FoundImage::Store(look_up_bytes(alloc, store, name)?))
 }
 
 /// The image of a name, of which the script made one or none is there.
@@ -114,8 +114,8 @@ pub(crate) fn script_image<'a>(images: &'a [ScriptImage], name: &[u8]) -> FoundI
     ensures { image_answer result ≡ found_image images.now (Err no_image.Missing) name.now }
 {
     match image_bytes(images, name) {
-        Some(bytes) => FoundImage::Made(bytes),
-        None => FoundImage::Told(Err(NoImage::Missing)),
+        Some(bytes) => FoundImage::Script(bytes),
+        None => FoundImage::Store(Err(NoImage::Missing)),
     }
 }
 

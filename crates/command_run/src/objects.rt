@@ -3,15 +3,15 @@ ghost use Rattle.std.specs.Option.{option_copied};
 ghost use Rattle.std.specs.Result.{result_map_both};
 ghost use Rattle.lane_model.specs.Conditions.{IsConfig};
 ghost use Rattle.script_lang.specs.Runnable.{IsBook, IsRunnable};
-ghost use Rattle.link_commands.specs.Acts.{IsFitNamed, bare_named_act, line_of};
+ghost use Rattle.link_commands.specs.Acts.{IsFitLine, IsFitNamed, bare_line, bare_named_act, line_of};
 ghost use Rattle.rp_io.specs.declared.faults.NoImage.TheVariants as no_image;
 ghost use Rattle.journal.specs.Lines.{transcript};
 ghost use Rattle.script_lang.specs.declared.commands.Command.{Command};
 ghost use Rattle.link_commands.specs.declared.acts.CoreAct.TheVariants as core;
 ghost use Rattle.link_commands.specs.declared.acts.NamedAct.TheVariants as under;
 ghost use Rattle.command_run.specs.Outcomes.{CutsRun, HandsRunEffect, HasRunEffect};
-ghost use Rattle.command_run.specs.Runs.{core_made_effect, core_place, is_full, regions_of, core_named, find_core, act_asks, core_act, effect_of, has_image, image_effect, image_place, made_effect, name_effect, new_run, place_of, quiet_effect, unnamed_effect};
-ghost use Rattle.command_run.specs.Lookups.{bench_named, core_taken, find_link, is_bare, link_taken, without_core, without_link};
+ghost use Rattle.command_run.specs.Runs.{core_made_effect, core_place, is_full, regions_of, core_under, find_core, act_asks, core_act, effect_of, has_image, image_effect, image_place, line_effect, made_effect, name_effect, new_run, place_of, quiet_effect, unnamed_effect};
+ghost use Rattle.command_run.specs.Lookups.{bench_under, core_state_under, find_link, is_bare, link_bench_under, without_core, without_link};
 ghost use Rattle.command_run.specs.Faults.{store_command_fault};
 ghost use Rattle.command_run.specs.Fetches.{EndsCut, IfSinkFailed, KeepsDriven, RunsTold};
 
@@ -96,7 +96,7 @@ impl Objects {
 
     /// The link of this name, or that of the core of this name.
     pub fn bench(&self, name: &[u8]) -> Option<&Bench>
-        ensures { option_copied result ≡ bench_named self.now name.now }
+        ensures { option_copied result ≡ bench_under self.now name.now }
     {
         match find_link(self.links.as_slice(), name) {
             Some(named) => Some(&named.bench),
@@ -106,7 +106,7 @@ impl Objects {
 
     /// Takes the link of this name out.
     pub fn take_link(&mut self, name: &[u8]) -> Option<Bench>
-        ensures taken { result ≡ link_taken self.old name.now }
+        ensures taken { result ≡ link_bench_under self.old name.now }
         ensures left { self.new ≡ without_link self.old name.now }
     {
         let place = place_of(self.links.as_slice(), name)?;
@@ -115,7 +115,7 @@ impl Objects {
 
     /// Takes the core of this name out.
     pub fn take_core(&mut self, name: &[u8]) -> Option<Core>
-        ensures taken { result ≡ core_taken self.old name.now }
+        ensures taken { result ≡ core_state_under self.old name.now }
         ensures left { self.new ≡ without_core self.old name.now }
     {
         let place = core_place(self.cores.as_slice(), name)?;
@@ -131,11 +131,29 @@ impl Objects {
         requires { IsRunnable command.now }
         ensures { IfOk result (λ ending. HasRunEffect (effect_of (Err no_image.Missing) (record { objects = self.old; steps = log.old.steps }) command.now) self.new log.old log.new ending) }
     {
+        // The kit's borrow checker knows the type of an act only where a match names it.
         match line_of(command) {
-            Line::Image { name, recipe } => self.make_image(name, recipe, log),
-            Line::Quiet { switch } => self.set_quiet(switch, log),
-            Line::Dump { name, image } => self.dump(name, image, log),
             Line::On { name, act } => self.run_on_name(name, &act, log),
+            line => self.run_line(&line, log),
+        }
+    }
+
+    /// The same of what a command is about.
+    ///
+    /// Errors: want of memory, which may leave anything of the command undone.
+    pub(crate) fn run_line(
+        &mut self,
+        line: &Line<&Recipe, &[u8]>,
+        log: &mut RunLog,
+    ) -> Result<Option<Stop>, NoMemory>
+        requires fit { IsFitLine (bare_line (λ recipe. recipe.now) (λ bytes. bytes.now) line.now) }
+        ensures { IfOk result (λ ending. HasRunEffect (line_effect (Err no_image.Missing) (record { objects = self.old; steps = log.old.steps }) (bare_line (λ recipe. recipe.now) (λ bytes. bytes.now) line.now)) self.new log.old log.new ending) }
+    {
+        match line {
+            Line::Image { name, recipe } => self.make_image(*name, recipe, log),
+            Line::Quiet { switch } => self.set_quiet(*switch, log),
+            Line::Dump { name, image } => self.dump(*name, *image, log),
+            Line::On { name, act } => self.run_on_name(*name, act, log),
         }
     }
 
@@ -149,8 +167,8 @@ impl Objects {
     }
 
     /// The core of this name, which no link has.
-    pub fn core_named(&self, name: &[u8]) -> Option<&NamedCore>
-        ensures { option_copied result ≡ core_named self.now name.now }
+    pub fn core_under(&self, name: &[u8]) -> Option<&NamedCore>
+        ensures { option_copied result ≡ core_under self.now name.now }
     {
         match place_of(self.links.as_slice(), name) {
             Some(_) => None,
@@ -240,7 +258,7 @@ impl Objects {
     fn place_without_link(&self, name: &[u8]) -> Option<usize>
         ensures core { IfSome result (λ place. Some place ≡ core_place self.now.cores name.now) }
         ensures link { IfSome result (λ _. None ≡ place_of self.now.links name.now) }
-        ensures none { IfNone result (core_named self.now name.now ≡ None) }
+        ensures none { IfNone result (core_under self.now name.now ≡ None) }
         ensures within { IfSome result (λ place. place < length self.now.cores) }
     {
         match place_of(self.links.as_slice(), name) {

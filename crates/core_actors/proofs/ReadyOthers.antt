@@ -35,8 +35,8 @@ use Rattle.channel_bus.specs.Sides.{EndState, side_meaning}
 use Rattle.link_bench.specs.declared.benches.BegunCall.{BegunCall}
 use Rattle.link_bench.specs.declared.benches.Reach.TheVariants as reach
 use Rattle.link_bench.specs.BenchCrashes.{after_reclaim, reclaim_leaves, reclaim_leaves_at}
-use Rattle.link_bench.specs.Benches.{AreFitCalls, BenchState, BenchWalk, IsSendable, advance_steps, advance_walk, begin_fault, begun_call_of, bench_walk, call_steps, call_walk, is_in_call, link_in, on_rings, start_walk, with_begun, with_new_caller}
-use Rattle.link_bench.proofs.Begun.{begin_may}
+use Rattle.link_bench.specs.Benches.{AreFitCalls, BenchState, BenchWalk, IsSendable, advance_steps, advance_walk, begin_fault, begun_call_of, bench_walk, call_steps, call_walk, is_in_call, link_in, on_rings, start_walk, with_begun_call, with_new_caller}
+use Rattle.link_bench.proofs.BegunCalls.{begin_may}
 use Rattle.link_bench.proofs.FitCalls.{begun_at, begun_or, calling_may}
 use Rattle.link_bench.proofs.Lists.{reclaim_lists}
 use Rattle.core_actors.specs.Actors.{ActorsState}
@@ -109,7 +109,7 @@ module _ (actors : ActorsState) (bench : BenchState) (caller : ℕ) (other : 1 <
   no_worker : caller ≢ 1
   no_worker same = absurd (omega (arith, other, same))
 
-  pub begun_ready : (call : BegunCall) → HasNoneBegun (with_begun bench caller (Some call)) × IsReadyBench actors (with_begun bench caller (Some call))
+  pub begun_ready : (call : BegunCall) → HasNoneBegun (with_begun_call bench caller (Some call)) × IsReadyBench actors (with_begun_call bench caller (Some call))
   begun_ready call = (
     record { host = put_other bench.begun caller 0 (Some call) no_host begun.host; worker = put_other bench.begun caller 1 (Some call) no_worker begun.worker },
     record { host = ready.host; worker = ready.worker },
@@ -142,7 +142,7 @@ module _ (actors : ActorsState) (bench : BenchState) (caller : ℕ) (other : 1 <
   advance_at more steps (Some call) is fit in_call =
       let may = fit caller call (begun_at (slice_get bench.begun caller) call is) in
       cond_both (eqb steps STEPS_MOST) (record { bench = bench; steps = steps; reach = reach.Limit })
-      (bench_walk (with_begun bench caller None) (call_steps on_rings more steps bench.rings caller call.follows call.wish))
+      (bench_walk (with_begun_call bench caller None) (call_steps on_rings more steps bench.rings caller call.follows call.wish))
       (λ (walk : BenchWalk). HasNoneBegun walk.bench × IsReadyBench actors walk.bench) (λ _. (begun, ready))
       (λ _. (
         record { host = cleared_begun bench.begun caller 0 begun.host; worker = cleared_begun bench.begun caller 1 begun.worker },

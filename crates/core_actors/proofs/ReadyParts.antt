@@ -12,7 +12,7 @@ use Rattle.link_bench.specs.declared.benches.Reach.TheVariants as reach
 use Rattle.link_bench.specs.ActParts.{ActPart, Advances, Begins, Calls, Joins, Reclaims, Sees, bench_after, watcher_after_part}
 use Rattle.link_bench.specs.Acts.{IsFitAct, link_act}
 use Rattle.link_bench.specs.BenchCrashes.{reclaim_leaves_at}
-use Rattle.link_bench.specs.Benches.{AreFitCalls, BenchState, BenchWalk, IsSendable, advance_steps, bench_walk, begun_call_of, call_steps, link_in, on_rings, with_begun}
+use Rattle.link_bench.specs.Benches.{AreFitCalls, BenchState, BenchWalk, IsSendable, advance_steps, bench_walk, begun_call_of, call_steps, link_in, on_rings, with_begun_call}
 use Rattle.link_bench.proofs.ActParts.{KeptByParts, MayPart}
 use Rattle.link_bench.proofs.ActWalks.{act_kept}
 use Rattle.link_bench.proofs.FitCalls.{fit_part}
@@ -32,7 +32,7 @@ pub advance_none : (bench : BenchState) (more steps caller : ℕ) (found : Optio
 advance_none bench more steps caller None is = record { host = is.host; worker = is.worker }
 advance_none bench more steps caller (Some call) is =
     cond_both (steps == STEPS_MOST) (record { bench = bench; steps = steps; reach = reach.Limit })
-    (bench_walk (with_begun bench caller None) (call_steps on_rings more steps bench.rings caller call.follows call.wish))
+    (bench_walk (with_begun_call bench caller None) (call_steps on_rings more steps bench.rings caller call.follows call.wish))
     (λ (walk : BenchWalk). HasNoneBegun walk.bench) (λ _. is)
     (λ _. record { host = cleared_begun bench.begun caller 0 is.host; worker = cleared_begun bench.begun caller 1 is.worker })
 
@@ -41,7 +41,7 @@ reclaim_none bench caller (Some end) None is = reclaim_begun bench caller is
 reclaim_none bench caller (Some end) (Some why) is = is
 reclaim_none bench caller None why is = is
 
-pub begun_none : (bench : BenchState) (caller : ℕ) (call : BegunCall) → 1 < caller → HasNoneBegun bench → HasNoneBegun (with_begun bench caller (Some call))
+pub begun_none : (bench : BenchState) (caller : ℕ) (call : BegunCall) → 1 < caller → HasNoneBegun bench → HasNoneBegun (with_begun_call bench caller (Some call))
 begun_none bench caller call other is = record {
   host = put_other bench.begun caller 0 (Some call) (λ same. absurd (omega (arith, other, same))) is.host;
   worker = put_other bench.begun caller 1 (Some call) (λ same. absurd (omega (arith, other, same))) is.worker;

@@ -12,13 +12,13 @@ use Rattle.link_bench.specs.declared.benches.Reach.{Reach}
 use Rattle.link_bench.specs.declared.benches.Reach.TheVariants as reach
 use Rattle.link_bench.specs.Benches.{BenchState, BenchWalk, HoldsTaken, is_in_call, advance_walk, counts_of, start_walk}
 use Rattle.core_actors.specs.declared.actors.Actor.{Actor}
-use Rattle.core_actors.specs.declared.progress.Driven.{Driven}
-use Rattle.core_actors.specs.declared.progress.Driven.TheVariants as driven
+use Rattle.core_actors.specs.declared.progress.DriveOutcome.{DriveOutcome}
+use Rattle.core_actors.specs.declared.progress.DriveOutcome.TheVariants as driven
 use Rattle.core_actors.specs.Actors.{ActorsState, other_actor}
 use Rattle.core_actors.specs.ActorEnds.{actors_after_drivers, host_after_call, message_of, worker_after_call}
 
 -- where a step ended a call that was handed a message, the call's caller holds its buffer and is in no call
-abbrev pub HoldsDrivenTaken : LinkState EndState → Driven → Type 0
+abbrev pub HoldsDrivenTaken : LinkState EndState → DriveOutcome → Type 0
 HoldsDrivenTaken link driven.Idle = Unit {0}
 HoldsDrivenTaken link driven.Stepped = Unit {0}
 HoldsDrivenTaken link (driven.Ended caller end) = HoldsTaken link caller end
@@ -26,7 +26,7 @@ HoldsDrivenTaken link (driven.Worker fault closed) = Unit {0}
 HoldsDrivenTaken link (driven.Crashed kind closed) = Unit {0}
 
 -- whether a step found that there was nothing to do
-abbrev pub is_rest : Driven → Bool
+abbrev pub is_rest : DriveOutcome → Bool
 is_rest driven.Idle = true
 is_rest other = false
 
@@ -55,7 +55,7 @@ host_after_step actors bench (reach.Ended end) = actors_after_drivers (host_afte
 host_after_step actors bench goes_on = actors
 
 -- what a step on the link was
-abbrev pub drive_of_reach : ℕ → Reach → Driven
+abbrev pub drive_of_reach : ℕ → Reach → DriveOutcome
 drive_of_reach caller (reach.Ended end) = driven.Ended caller end
 drive_of_reach caller goes_on = driven.Stepped
 
@@ -73,7 +73,7 @@ wishes_of_work (work.Crash kind) = []
 wishes_of_work (work.Fault fault) = []
 
 -- what the step of a record was; it has closed no link yet
-abbrev pub drive_of_work : Work → Driven
+abbrev pub drive_of_work : Work → DriveOutcome
 drive_of_work work.Nothing = driven.Stepped
 drive_of_work (work.Ask wanted) = driven.Stepped
 drive_of_work work.Halted = driven.Stepped

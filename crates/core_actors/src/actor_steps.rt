@@ -14,7 +14,7 @@ ghost use Rattle.core_actors.specs.ActorSteps.{HoldsDrivenTaken, actors_after_re
 ghost use Rattle.core_actors.specs.PendingCalls.{AreOwnUsed, AreReady};
 
 use crate::actors::{Actor, Actors, HOST_CALLER, WORKER_CALLER, make_room};
-use crate::progress::Driven;
+use crate::progress::DriveOutcome;
 use fw_load::Loaded;
 use lane_model::Wish;
 use link_bench::{Bench, Reach, StepCount};
@@ -66,12 +66,12 @@ fn begin_step(bench: &mut Bench, caller: CallerNo, wished: &Wish, reach: &mut Re
 }
 
 /// What a step of this caller's call was that came so far.
-fn tell_reach(caller: CallerNo, reach: &Reach, driven: &mut Driven)
+fn tell_reach(caller: CallerNo, reach: &Reach, driven: &mut DriveOutcome)
     ensures { driven.new ≡ drive_of_reach caller reach.now }
 {
     *driven = match reach {
-        Reach::Ended(end) => Driven::Ended(caller, *end),
-        _ => Driven::Stepped,
+        Reach::Ended(end) => DriveOutcome::Ended(caller, *end),
+        _ => DriveOutcome::Stepped,
     };
 }
 
@@ -86,7 +86,7 @@ impl Actors {
         &mut self,
         bench: &mut Bench,
         goes_on: bool,
-        driven: &mut Driven,
+        driven: &mut DriveOutcome,
     ) -> Result<(), NoMemory>
         requires calling { goes_on ≡ is_in_call bench.old 0 }
         requires own { AreOwnUsed (link_in bench.old).callers }
@@ -120,7 +120,7 @@ impl Actors {
         &mut self,
         bench: &mut Bench,
         goes_on: bool,
-        driven: &mut Driven,
+        driven: &mut DriveOutcome,
     ) -> Result<(), NoMemory>
         requires calling { goes_on ≡ is_in_call bench.old 1 }
         requires own { AreOwnUsed (link_in bench.old).callers }
@@ -159,7 +159,7 @@ impl Actors {
         &mut self,
         load: &mut Loaded,
         linked: bool,
-        driven: &mut Driven,
+        driven: &mut DriveOutcome,
     ) -> Result<(), NoMemory>
         requires { length load.old.memory ≡ load.old.map.memory_len }
         ensures loaded { OnOk result (load.new ≡ record load.old { memory = memory_after load.old.memory load.old.map linked (actors_view self.old).worker }) }
@@ -178,13 +178,13 @@ impl Actors {
             .worker
             .work(&mut load.memory, &load.map, linked, &mut wish)
         {
-            Task::Nothing | Task::Halted => *driven = Driven::Stepped,
+            Task::Nothing | Task::Halted => *driven = DriveOutcome::Stepped,
             Task::Asked => {
                 self.worker_calls.push_back_reserved(wish);
-                *driven = Driven::Stepped;
+                *driven = DriveOutcome::Stepped;
             }
-            Task::Crash(kind) => *driven = Driven::Crashed(kind, None),
-            Task::Fault(fault) => *driven = Driven::Worker(fault, None),
+            Task::Crash(kind) => *driven = DriveOutcome::Crashed(kind, None),
+            Task::Fault(fault) => *driven = DriveOutcome::Worker(fault, None),
         }
         Ok(())
     }

@@ -8,4 +8,4 @@ mod idle_actors;
 mod progress;
 
 pub use actors::{Actor, Actors, HOST_CALLER, WORKER_CALLER};
-pub use progress::Driven;
+pub use progress::DriveOutcome;

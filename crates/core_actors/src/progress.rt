@@ -7,7 +7,7 @@ use rp_base::{CallerNo, CrashKind, Inc};
 
 /// What a step of a core's actors was.
 #[derive(Clone, Copy)]
-pub enum Driven {
+pub enum DriveOutcome {
     /// None: both have nothing to do.
     Idle,
     /// A step of a call that goes on, or a record that asks for nothing else.
@@ -21,11 +21,11 @@ pub enum Driven {
     Crashed(CrashKind, Option<Inc>),
 }
 
-impl Driven {
+impl DriveOutcome {
     /// Whether neither actor had anything to do.
     pub fn is_rest(&self) -> bool
         ensures { result ≡ is_rest self.now }
     {
-        matches!(self, Driven::Idle)
+        matches!(self, DriveOutcome::Idle)
     }
 }

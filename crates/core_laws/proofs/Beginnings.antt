@@ -1,5 +1,5 @@
 -- The link of a core whose life begins is empty, in the next incarnation of that life.
-use Rattle.std.proofs.Common.{◌≡◌, ◌+◌, ◌==◌, ℕ, true, List, Option, Some, None, IfSome, Result, Ok, Err, refl, sym, ap, subst, ◌∙◌}
+use Rattle.std.proofs.Common.{◌≡◌, ◌+◌, ◌==◌, ℕ, true, List, Option, Some, None, IfSome, Ok, refl, sym, ap, subst, ◌∙◌}
 use Rattle.std.specs.Option.{option_map}
 use Rattle.std.proofs.lemmas.Bool.{cond_both, true≢false}
 use Rattle.rp_io.specs.Images.{ImageAnswer}
@@ -10,25 +10,23 @@ use Rattle.fw_load.specs.declared.rings.RingPair.{RingPair}
 use Rattle.lane_model.specs.declared.recoveries.ReclaimRefusal.{ReclaimRefusal}
 use Rattle.lane_model.specs.Links.{end_of}
 use Rattle.lane_model.specs.Recoveries.{link_reclaim_refusal, without_caller}
-use Rattle.proc_state.specs.declared.answers.LifeFault.{LifeFault}
 use Rattle.proc_state.specs.declared.answers.LifeFault.TheVariants as life_fault
-use Rattle.proc_state.specs.declared.answers.Power.{Power}
 use Rattle.proc_state.specs.declared.answers.Power.TheVariants as power
-use Rattle.proc_state.specs.Lives.{CoreLife, Outcome, boot_to, first_start, is_offline, life_after_boot, line_of, most, recovery_fault, refusal_of}
+use Rattle.proc_state.specs.Lives.{CoreLife, Outcome, boot_to, first_start, life_after_boot, line_of, most, refusal_of}
 use Rattle.link_bench.specs.Benches.{BenchState, LinkRings, link_in, on_rings}
 use Rattle.link_bench.specs.BenchCrashes.{after_reopen}
 use Rattle.link_bench.specs.BenchEnds.{bench_to_reopen, with_new_host_unless}
 use Rattle.crash_recover.specs.declared.core_answers.Start.{Start}
 use Rattle.crash_recover.specs.declared.core_answers.Start.TheVariants as start
 use Rattle.crash_recover.specs.declared.core_faults.StartFault.{StartFault}
-use Rattle.crash_recover.specs.declared.core_faults.StartFault.TheVariants as start_fault
 use Rattle.core_actors.specs.Actors.{driver_names}
-use Rattle.crash_recover.specs.Cores.{CoreOutcome, CoreState, IsKeptCore, loaded_rings, refuse_or}
-use Rattle.crash_recover.specs.CoreBoots.{boot_as, boot_of, core_bench, first_boot, image_fault, load_in, started_core, with_load}
-use Rattle.crash_recover.specs.CoreRecoveries.{core_to_reopen, recovery_of, reload_fault, reopen_fault}
+use Rattle.crash_recover.specs.Cores.{CoreOutcome, CoreState, IsKeptCore, loaded_rings}
+use Rattle.crash_recover.specs.CoreBoots.{boot_of, core_bench, load_in, started_core, with_load}
+use Rattle.crash_recover.specs.CoreRecoveries.{recovery_of}
 use Rattle.crash_recover.specs.KeptCores.{IsKeptBench}
 use Rattle.crash_recover.proofs.Restarts.{restarts}
 use Rattle.crash_recover.proofs.SameLives.{no_first}
+use Rattle.core_laws.proofs.CallOutcomes.{Attaches, BootOutcome, NoBoot, NoImage, NoRecovery, NoReload, NoReopening, OneMore, RecoveryOutcome, Restarts, Runs, boot_outcome, recovery_outcome}
 use Rattle.core_laws.specs.Beginnings.{BeginsEmpty, BeginsLife, ReopensNext, begins_life}
 
 -- ---- links
@@ -97,51 +95,46 @@ boot_next (Some state) life is = first_next state 1 power.First power.First life
 abbrev pub Begun : (CoreState → Type 0) → CoreOutcome Start StartFault → Type 0
 Begun Q outcome = (did : Start) → begins_life did ≡ true → outcome.answer ≡ Ok did → Q outcome.core
 
+-- a core that a boot starts is in the next incarnation of its life, and so is its link
+begins_in : (core loaded : CoreState) → (life_after_boot core.life).answer ≡ Ok power.First → BeginsLife (core.life.incarnation + 1) (started_core (life_after_boot core.life).life loaded)
+begins_in core loaded first =
+    let next = boot_next (line_of core.life.state).boot core.life first in
+    record {
+      life = next;
+      link = subst (λ (inc : ℕ). IfSome (option_map (core_bench (driver_names loaded.actors) loaded.book (life_after_boot core.life).life.incarnation) (loaded_rings loaded.loaded)) (BeginsEmpty inc)) next
+          (linked_empty (driver_names loaded.actors) loaded.book (life_after_boot core.life).life.incarnation (loaded_rings loaded.loaded));
+    }
+
 users_begin_none : (users : ℕ) (did : Start) → begins_life did ≡ true → start.Users users ≡ did → ⊥
 users_begin_none users did begins same = true≢false (sym (ap begins_life same ∙ begins))
 
-first_begins : (life : CoreLife) (core : CoreState) (name : List ℕ) (found : ImageAnswer) → Begun (BeginsLife life.incarnation) (first_boot life core name found)
-first_begins life core name found =
-    let done : CoreOutcome Start StartFault = record { core = started_core life (with_load core name (load_in core found)); answer = Ok (start.Running life.incarnation) } in
-    cond_both (is_offline core.life.state) (refuse_or core (image_fault core found) done) (record { core = started_core life core; answer = Ok (start.Attached life.incarnation) }) (Begun (BeginsLife life.incarnation))
-    (λ _. elim (image_fault core found) as (λ refused. Begun (BeginsLife life.incarnation) (refuse_or core refused done)) [
-      | None ↦ λ did begins is. record { life = refl; link = linked_empty (driver_names core.actors) core.book life.incarnation (load_in core found).rings }
-      | Some why ↦ λ did begins is. absurd (cc)
-    ])
-    (λ _ did begins is. record { life = refl; link = linked_empty (driver_names core.actors) core.book life.incarnation (loaded_rings core.loaded) })
-
-boot_as_begins : (inc : ℕ) (life : CoreLife) (answer : Result Power LifeFault) (core : CoreState) (name : List ℕ) (found : ImageAnswer) → (answer ≡ Ok power.First → life.incarnation ≡ inc)
-    → Begun (BeginsLife inc) (boot_as life answer core name found)
-boot_as_begins inc life (Err why) core name found next did begins is = absurd (cc)
-boot_as_begins inc life (Ok (power.Counted users)) core name found next did begins is = let same : start.Users users ≡ did = cc in absurd (users_begin_none users did begins same)
-boot_as_begins inc life (Ok power.First) core name found next did begins is =
-    subst (λ (there : ℕ). BeginsLife there (first_boot life core name found).core) (next refl) (first_begins life core name found did begins is)
+boot_comes : (core : CoreState) (name : List ℕ) (found : ImageAnswer) {out : CoreOutcome Start StartFault} → BootOutcome core name found out → Begun (BeginsLife (core.life.incarnation + 1)) out
+boot_comes core name found (NoBoot why) did begins is = absurd (cc)
+boot_comes core name found (NoImage why refuses) did begins is = absurd (cc)
+boot_comes core name found (OneMore users answer) did begins is = let same : start.Users users ≡ did = cc in absurd (users_begin_none users did begins same)
+boot_comes core name found (Runs first off clear) did begins is = begins_in core (with_load core name (load_in core found)) first
+boot_comes core name found (Attaches first on) did begins is = begins_in core core first
 
 pub boot_begins : (core : CoreState) (name : List ℕ) (found : ImageAnswer) → Begun (BeginsLife (core.life.incarnation + 1)) (boot_of core name found)
-unfolding boot_of
-boot_begins core name found =
-    boot_as_begins (core.life.incarnation + 1) (life_after_boot core.life).life (life_after_boot core.life).answer core name found (boot_next (line_of core.life.state).boot core.life)
+boot_begins core name found = boot_comes core name found (boot_outcome core name found)
 
--- where nothing refuses it
-unless_refused : (Q : CoreState → Type 0) (core : CoreState) (refused : Option StartFault) (done : CoreOutcome Start StartFault) → (refused ≡ None → Begun Q done) → Begun Q (refuse_or core refused done)
-unless_refused Q core None done rest did begins is = rest refl did begins is
-unless_refused Q core (Some why) done rest did begins is = absurd (cc)
+reopening_comes : (core : CoreState) (found : ImageAnswer) {out : CoreOutcome Start StartFault} → RecoveryOutcome core found out → Begun (λ (after : CoreState). ReopensNext core.bench after.bench) out
+reopening_comes core found (NoRecovery why is_so) did begins is = absurd (cc)
+reopening_comes core found (NoReload why may is_so) did begins is = absurd (cc)
+reopening_comes core found (NoReopening why may loads is_so) did begins is = absurd (cc)
+reopening_comes core found (Restarts may loads opens) did begins is = readied_next core.bench
 
 pub recovery_reopens : (core : CoreState) (found : ImageAnswer) → Begun (λ (after : CoreState). ReopensNext core.bench after.bench) (recovery_of core found)
-unfolding recovery_of
-recovery_reopens core found =
-    let Q : CoreState → Type 0 = λ after. ReopensNext core.bench after.bench in
-    unless_refused Q core (option_map start_fault.Life (recovery_fault core.life)) _ (λ _.
-    unless_refused Q core (reload_fault core found) _ (λ _.
-    unless_refused Q (core_to_reopen core) (reopen_fault core) _ (λ _ did begins is. readied_next core.bench)))
+recovery_reopens core found = reopening_comes core found (recovery_outcome core found)
+
+recovery_comes : (core : CoreState) (found : ImageAnswer) {out : CoreOutcome Start StartFault} → RecoveryOutcome core found out → IsKeptCore core → Begun (BeginsLife (core.life.incarnation + 1)) out
+recovery_comes core found (NoRecovery why is_so) kept did begins is = absurd (cc)
+recovery_comes core found (NoReload why may is_so) kept did begins is = absurd (cc)
+recovery_comes core found (NoReopening why may loads is_so) kept did begins is = absurd (cc)
+recovery_comes core found (Restarts may loads opens) kept did begins is = record {
+  life = ap (λ (life : CoreLife). life.incarnation) (restarts core opens);
+  link = kept_next core.life core.bench kept;
+}
 
 pub recovery_begins : (core : CoreState) (found : ImageAnswer) → IsKeptCore core → Begun (BeginsLife (core.life.incarnation + 1)) (recovery_of core found)
-unfolding recovery_of
-recovery_begins core found kept =
-    let Q = BeginsLife (core.life.incarnation + 1) in
-    unless_refused Q core (option_map start_fault.Life (recovery_fault core.life)) _ (λ _.
-    unless_refused Q core (reload_fault core found) _ (λ _.
-    unless_refused Q (core_to_reopen core) (reopen_fault core) _ (λ opens did begins is. record {
-      life = ap (λ (life : CoreLife). life.incarnation) (restarts core opens);
-      link = kept_next core.life core.bench kept;
-    })))
+recovery_begins core found kept = recovery_comes core found (recovery_outcome core found) kept

@@ -17,10 +17,10 @@ use Rattle.channel_bus.specs.Sides.{EndState, side_meaning}
 use Rattle.channel_bus.specs.Laws.{side_laws}
 use Rattle.link_bench.specs.declared.benches.BegunCall.{BegunCall}
 use Rattle.link_bench.specs.declared.benches.Reach.TheVariants as reach
-use Rattle.link_bench.specs.Benches.{AreFitCalls, BenchState, BenchWalk, IsSendable, advance_steps, advance_walk, begin_fault, begin_walk, begun_call_of, bench_walk, call_steps, is_in_call, link_in, new_bench_of, on_rings, with_begun, with_new_caller}
+use Rattle.link_bench.specs.Benches.{AreFitCalls, BenchState, BenchWalk, IsSendable, advance_steps, advance_walk, begin_fault, begin_walk, begun_call_of, bench_walk, call_steps, is_in_call, link_in, new_bench_of, on_rings, with_begun_call, with_new_caller}
 use Rattle.link_bench.specs.BenchCrashes.{after_close, after_reclaim, after_reopen, reclaim_leaves, reclaim_leaves_at}
 use Rattle.core_laws.specs.BenchMoves.{ComesBy, IsReachedBench}
-use Rattle.link_bench.proofs.Begun.{begin_may, none_in_none}
+use Rattle.link_bench.proofs.BegunCalls.{begin_may, none_in_none}
 use Rattle.link_bench.proofs.Lists.{close_lists, reclaim_lists}
 use Rattle.link_bench.proofs.FitCalls.{begun_at, begun_or, calling_may, fit_advanced, fit_begun, fit_called, fit_joined}
 use Rattle.link_bench.proofs.BenchMay.{fit_closed, fit_reclaimed, fit_reopened}
@@ -45,7 +45,7 @@ enlisted bench end reached =
 
 -- a call is begun
 pub begun_reached : (bench : BenchState) (caller : ℕ) (call : BegunCall) → IsReachedBench bench → begin_fault bench caller call.wish ≡ None
-    → IsSendable call.wish → IsReachedBench (with_begun bench caller (Some call))
+    → IsSendable call.wish → IsReachedBench (with_begun_call bench caller (Some call))
 begun_reached bench caller call reached ready sendable = record { link = reached.link; fit = fit_begun bench caller call ready sendable reached.fit }
 
 -- steps of the call that a caller is in
@@ -53,7 +53,7 @@ advance_comes : (bench : BenchState) (more steps caller : ℕ) (found : Option B
     → IsReachedBench bench → ComesBy side_meaning (link_in bench) (link_in (advance_steps bench more steps caller found).bench)
 advance_comes bench more steps caller (Some call) is in_call reached =
     cond_both (eqb steps STEPS_MOST) (record { bench = bench; steps = steps; reach = reach.Limit })
-    (bench_walk (with_begun bench caller None) (call_steps on_rings more steps bench.rings caller call.follows call.wish))
+    (bench_walk (with_begun_call bench caller None) (call_steps on_rings more steps bench.rings caller call.follows call.wish))
     (λ (walk : BenchWalk). ComesBy side_meaning (link_in bench) (link_in walk.bench)) (λ _. comes_none side_meaning (link_in bench))
     (λ _. call_comes more steps bench.rings caller call.follows call.wish (reached.fit caller call (begun_at (slice_get bench.begun caller) call is)))
 advance_comes bench more steps caller None none in_call reached =

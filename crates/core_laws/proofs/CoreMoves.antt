@@ -32,7 +32,7 @@ use Rattle.proc_state.specs.Lives.{CoreLife}
 use Rattle.core_laws.specs.BenchMoves.{IsReachedBench, IsReachedCore}
 use Rattle.core_laws.proofs.ActorCalls.{first_fits, host_begun_fit, host_step_fit, ran_fit, worker_step_fit}
 use Rattle.core_laws.proofs.Sendable.{any_end, sendable_calls, short_messages, work_sendable}
-use Rattle.link_bench.proofs.Begun.{begin_may}
+use Rattle.link_bench.proofs.BegunCalls.{begin_may}
 use Rattle.link_bench.proofs.CrashWalks.{crash_walk, remote_walk}
 use Rattle.crash_recover.proofs.KeptCrashes.{close_shut}
 use Rattle.core_laws.proofs.BenchMoves.{advanced, called, closed, enlisted, new_reached, reclaimed, reopened, reclaimable_is_shut}

@@ -5,8 +5,8 @@ use Rattle.lane_model.specs.declared.calls.Wish.{Wish}
 use Rattle.link_bench.specs.Benches.{BenchState, begin_fault, is_in_call, link_in}
 use Rattle.core_actors.specs.declared.actors.Actor.{Actor}
 use Rattle.core_actors.specs.declared.actors.Actor.TheVariants as actor
-use Rattle.core_actors.specs.declared.progress.Driven.{Driven}
-use Rattle.core_actors.specs.declared.progress.Driven.TheVariants as driven
+use Rattle.core_actors.specs.declared.progress.DriveOutcome.{DriveOutcome}
+use Rattle.core_actors.specs.declared.progress.DriveOutcome.TheVariants as driven
 use Rattle.core_actors.specs.ActorSteps.{first_or_take, has_calls, host_is_idle, worker_is_idle}
 use Rattle.core_actors.specs.PendingCalls.{AreOwnUsed, AreReady}
 use Rattle.core_actors.proofs.ReadyActors.{host_begins, worker_begins}
@@ -54,7 +54,7 @@ both_known true P one two first second is other = is refl
 both_known false P one two first second is other = other refl
 
 -- what holds of a core before a step, and then of each part of the step and of what goes beside it
-pub record HoldOfParts {X : Type 0} (none : X) (on_link : Option BenchState → ℕ → Wish → X) (on_record : Driven → CoreState → X) (Before : CoreState → Type 0) (After : DriveStep → X → Type 0) : Type 0 where
+pub record HoldOfParts {X : Type 0} (none : X) (on_link : Option BenchState → ℕ → Wish → X) (on_record : DriveOutcome → CoreState → X) (Before : CoreState → Type 0) (After : DriveStep → X → Type 0) : Type 0 where
   pub rest : (core : CoreState) → Before core → After (record { core = core; driven = driven.Idle }) none
   pub turn : (who : Actor) (core : CoreState) → Before core → Before (with_turn_after who core)
   pub host : (core : CoreState) (bench : BenchState) → core.bench ≡ Some bench → host_is_idle (Some bench) core.actors ≡ false → Before core
@@ -64,7 +64,7 @@ pub record HoldOfParts {X : Type 0} (none : X) (on_link : Option BenchState → 
   pub work : (core : CoreState) (load : LoadState) → core.loaded ≡ Some load → has_calls core.bench core.actors ≡ false → worker_is_idle core.bench core.actors ≡ false → Before core
       → let done = run_by core load (placed_map core.regions load) in After (step_with_report done) (on_record done.driven done.core)
 
-module _ {X : Type 0} (none : X) (on_link : Option BenchState → ℕ → Wish → X) (on_record : Driven → CoreState → X) (Before : CoreState → Type 0) (After : DriveStep → X → Type 0)
+module _ {X : Type 0} (none : X) (on_link : Option BenchState → ℕ → Wish → X) (on_record : DriveOutcome → CoreState → X) (Before : CoreState → Type 0) (After : DriveStep → X → Type 0)
     (parts : HoldOfParts none on_link on_record Before After) where
   host_walk : (core : CoreState) (found : Option BenchState) → core.bench ≡ found → host_is_idle found core.actors ≡ false → Before core
       → After (host_step core found) (on_link found 0 (first_or_take core.actors.host_calls))
@@ -98,7 +98,7 @@ module _ {X : Type 0} (none : X) (on_link : Option BenchState → ℕ → Wish �
 abbrev pub no_link : Option BenchState → ℕ → Wish → Unit {0}
 no_link found caller wanted = tt
 
-abbrev pub no_record : Driven → CoreState → Unit {0}
+abbrev pub no_record : DriveOutcome → CoreState → Unit {0}
 no_record came core = tt
 
 abbrev pub HoldOfSteps : (CoreState → Type 0) → (DriveStep → Type 0) → Type 0
@@ -119,7 +119,7 @@ pub record AreLeftParts (Before After : CoreState → Type 0) : Type 0 where
   pub report : (core : CoreState) → After core → After (after_report core)
 
 -- what holds of a core over a report of a crash holds of it with what a step may have reported
-pub reported : (P : CoreState → Type 0) → ((core : CoreState) → P core → P (after_report core)) → (came : Driven) (core : CoreState) → P core → P (core_with_report came core)
+pub reported : (P : CoreState → Type 0) → ((core : CoreState) → P core → P (after_report core)) → (came : DriveOutcome) (core : CoreState) → P core → P (core_with_report came core)
 reported P report driven.Idle core is = is
 reported P report driven.Stepped core is = is
 reported P report (driven.Ended caller end) core is = is

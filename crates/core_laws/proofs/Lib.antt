@@ -2,7 +2,7 @@ pub mod ShortMoves
 pub mod LinkMoves
 pub mod CallMoves
 pub mod BenchMoves
-pub mod Handed
+pub mod HandedMessages
 pub mod ActorCalls
 pub mod Sendable
 pub mod DriveWalks
@@ -11,6 +11,7 @@ pub mod CrashReclaims
 pub mod KeptCallers
 pub mod KeptCores
 pub mod ReadyLives
+pub mod CallOutcomes
 pub mod Outcomes
 pub mod CoreActs
 pub mod Starts

@@ -14,7 +14,7 @@ ghost use Rattle.lane_model.specs.Soundness.{SoundLink};
 ghost use Rattle.channel_bus.specs.Sides.{EndState, side_meaning};
 ghost use Rattle.link_bench.specs.declared.benches.BegunCall.{BegunCall};
 ghost use Rattle.core_actors.specs.Actors.{ActorsState};
-ghost use Rattle.link_bench.specs.Benches.{BenchState, IsSendable, advance_walk, begin_fault, call_walk, is_in_call, link_in, new_bench_of, start_walk, with_begun, with_new_caller};
+ghost use Rattle.link_bench.specs.Benches.{BenchState, IsSendable, advance_walk, begin_fault, call_walk, is_in_call, link_in, new_bench_of, start_walk, with_begun_call, with_new_caller};
 ghost use Rattle.link_bench.specs.BenchCrashes.{after_close, after_reclaim, after_reopen, reclaim_leaves};
 ghost use Rattle.link_bench.specs.declared.acts.LinkAct.{LinkAct};
 ghost use Rattle.link_bench.specs.Acts.{IsFitAct, link_act};
@@ -56,13 +56,13 @@ pub fn moves_on()
 
 /// The link of a bench comes by moves from the start of its incarnation: so it is at first, and so it stays over all that a bench does. A
 /// reopening is a new start.
-pub fn bench_reached()
+pub fn bench_is_reached()
     ensures new { (config : LinkConfig) (host remote : EndState) → IsFreshDesk side_meaning host → IsFreshDesk side_meaning remote
         → IsReachedBench (new_bench_of config host remote) }
     ensures caller { (bench : BenchState) (end : End) → IsReachedBench bench
         → IsReachedBench (with_new_caller bench end (free_number (link_in bench).callers)) }
     ensures begun { (bench : BenchState) (caller : ℕ) (call : BegunCall) → IsReachedBench bench → begin_fault bench caller call.wish ≡ None
-        → IsSendable call.wish → IsReachedBench (with_begun bench caller (Some call)) }
+        → IsSendable call.wish → IsReachedBench (with_begun_call bench caller (Some call)) }
     ensures advance { (bench : BenchState) (more steps caller : ℕ) → IsReachedBench bench → is_in_call bench caller ≡ true
         → IsReachedBench (advance_walk bench more steps caller).bench }
     ensures call { (bench : BenchState) (steps caller : ℕ) (wanted : Wish) → IsReachedBench bench → begin_fault bench caller wanted ≡ None
@@ -81,7 +81,7 @@ pub fn bench_reached()
 
 /// The link of a core comes so too, from its boot to its last shutdown or detach, over crashes and recoveries, over each step of its actors, whose
 /// messages all fit buffers, and over acts for other callers.
-pub fn core_reached()
+pub fn core_is_reached()
     ensures new { (regions : List Region) (kinds : List Declared) (book : ℕ) → IsReachedCore (new_core regions kinds book) }
     ensures link { (names : List (List ℕ)) (book first : ℕ) (rings : RingPair) → IsReachedBench (core_bench names book first rings) }
     ensures crash { (bench : BenchState) → IsReachedBench bench → IsReachedBench (crashed_bench bench) }
@@ -152,7 +152,7 @@ pub fn lives_begin_empty()
 
 /// The link of a core always has the core's own callers in use, 0 at the host and 1 at the remote, no turn of it is ever the manager's, and it is in
 /// the incarnation of the core's life, live exactly while the core is up. A link that is reopened is so for the next incarnation of the life.
-pub fn core_kept()
+pub fn core_is_kept()
     ensures new { (regions : List Region) (kinds : List Declared) (book : ℕ) → IsKeptCore (new_core regions kinds book) }
     ensures boot { (core : CoreState) (name : List ℕ) (found : ImageAnswer) → IsKeptCore core → IsKeptCore (boot_of core name found).core }
     ensures handover { (core : CoreState) (name : List ℕ) (found : ImageAnswer) → IsKeptCore core → IsKeptCore (handover_of core name found).core }
@@ -168,11 +168,11 @@ pub fn core_kept()
 
 /// What callers do on the link of a core keeps that, in whatever life the core is: the making of a caller, each call and step, and a reclaim of
 /// any caller but the core's own.
-pub fn link_kept()
+pub fn link_is_kept()
     ensures caller { (life : CoreLife) (bench : BenchState) (end : End) → IsKeptBench life bench
         → IsKeptBench life (with_new_caller bench end (free_number (link_in bench).callers)) }
     ensures begun { (life : CoreLife) (bench : BenchState) (caller : ℕ) (call : BegunCall) → IsKeptBench life bench
-        → IsKeptBench life (with_begun bench caller (Some call)) }
+        → IsKeptBench life (with_begun_call bench caller (Some call)) }
     ensures advance { (life : CoreLife) (bench : BenchState) (more steps caller : ℕ) → IsKeptBench life bench
         → IsKeptBench life (advance_walk bench more steps caller).bench }
     ensures call { (life : CoreLife) (bench : BenchState) (steps caller : ℕ) (wanted : Wish) → IsKeptBench life bench
@@ -225,7 +225,7 @@ pub fn link_ready()
     ensures caller { (actors : ActorsState) (bench : BenchState) (end : End) → HasNoneBegun bench → IsReadyBench actors bench
         → let after = with_new_caller bench end (free_number (link_in bench).callers) in HasNoneBegun after × IsReadyBench actors after }
     ensures begun { (actors : ActorsState) (bench : BenchState) (caller : ℕ) (call : BegunCall) → 1 < caller → HasNoneBegun bench → IsReadyBench actors bench
-        → let after = with_begun bench caller (Some call) in HasNoneBegun after × IsReadyBench actors after }
+        → let after = with_begun_call bench caller (Some call) in HasNoneBegun after × IsReadyBench actors after }
     ensures advance { (actors : ActorsState) (bench : BenchState) (more steps caller : ℕ) → 1 < caller → HasNoneBegun bench → IsReadyBench actors bench
         → IsReachedBench bench → is_in_call bench caller ≡ true
         → let after = (advance_walk bench more steps caller).bench in HasNoneBegun after × IsReadyBench actors after }

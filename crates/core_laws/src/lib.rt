@@ -4,7 +4,7 @@
 mod laws;
 
 pub use laws::{
-    actors_begin, bench_reached, core_kept, core_reached, core_ready, crash_reclaims, handed_due,
-    handed_once, link_kept, link_ready, lives_begin_empty, moves_on, reached_sound, reopens_next,
-    starts_just_where,
+    actors_begin, bench_is_reached, core_is_kept, core_is_reached, core_ready, crash_reclaims,
+    handed_due, handed_once, link_is_kept, link_ready, lives_begin_empty, moves_on, reached_sound,
+    reopens_next, starts_just_where,
 };

@@ -1,5 +1,5 @@
 use crate::stores::store_with;
-use crash_recover::{Core, Driven};
+use crash_recover::{Core, DriveOutcome};
 use lane_model::CallEnd;
 use memory_pool::Regions;
 use rp_base::CrashKind;
@@ -12,7 +12,7 @@ const RECIPE: &str = "image a\nentry 0\ncode 0\nbind 1024\nhalt\ntable 0x100\nvd
 
 /// Whether a core is up, and a step of its actors goes on with something.
 fn goes_on(core: &mut Core, alloc: Global) -> bool {
-    core.life().is_up() && matches!(core.drive_step(alloc), Ok(Driven::Stepped))
+    core.life().is_up() && matches!(core.drive_step(alloc), Ok(DriveOutcome::Stepped))
 }
 
 /// Whether a core is up, and a step of its worker ends a binding of the address 1024.
@@ -20,13 +20,15 @@ fn has_bound(core: &mut Core, alloc: Global) -> bool {
     core.life().is_up()
         && matches!(
             core.drive_step(alloc),
-            Ok(Driven::Ended(1, CallEnd::Bound(endpoint))) if endpoint.address == 1024 && endpoint.generation == 1
+            Ok(DriveOutcome::Ended(1, CallEnd::Bound(endpoint))) if endpoint.address == 1024 && endpoint.generation == 1
         )
 }
 
 /// Whether a core is up, and neither of its actors makes a step.
 fn rests(core: &mut Core, alloc: Global) -> bool {
-    core.life().is_up() && matches!(core.drive_step(alloc), Ok(Driven::Idle)) && core.is_idle()
+    core.life().is_up()
+        && matches!(core.drive_step(alloc), Ok(DriveOutcome::Idle))
+        && core.is_idle()
 }
 
 /// Whether the worker runs its first record, binds an endpoint in three steps and ends, and both actors rest then.

@@ -12,12 +12,12 @@ use Rattle.link_bench.specs.declared.acts.LinkAct.TheVariants as act
 use Rattle.link_bench.specs.declared.benches.BenchFault.{BenchFault}
 use Rattle.link_bench.specs.declared.benches.BenchFault.TheVariants as fault
 use Rattle.link_bench.specs.declared.benches.Reach.{Reach}
-use Rattle.link_bench.specs.Acts.{Acted, HasActed, IsCutAct, answer_of_reclaim, caller_act, link_act, reclaim_act, step_act, unless_own, unless_refused, walk_act}
+use Rattle.link_bench.specs.Acts.{ActResult, HasActResult, IsCutAct, answer_of_reclaim, caller_act, link_act, reclaim_act, step_act, unless_own, unless_refused, walk_act}
 use Rattle.link_bench.specs.BenchCrashes.{reclaim_answer, reclaim_leaves}
 use Rattle.link_bench.specs.Benches.{BenchState, advance_walk, link_in, step_fault, with_new_caller}
 use Rattle.core_actors.specs.ActorEnds.{actors_after_end}
 use Rattle.core_actors.specs.Actors.{ActorsState}
-use Rattle.crash_recover.specs.CoreActs.{CoreActed, HasCoreActed, IsCutOnCore, act_on_core, core_act, core_act_on}
+use Rattle.crash_recover.specs.CoreActs.{CoreActResult, HasCoreActResult, IsCutOnCore, act_on_core, core_act, core_act_on}
 use Rattle.crash_recover.specs.CoreCallers.{caller_answer, core_step_fault, reach_of}
 use Rattle.crash_recover.specs.Cores.{CoreState}
 
@@ -49,54 +49,54 @@ cut_on_core core bench steps (act.Reclaim caller) left seen there cut = as_it_wa
 
 module _ (core : CoreState) (bench : BenchState) (there : core.bench ≡ Some bench) where
   -- what an act does on a core that has this link
-  on_bench : (P : CoreActed → Type 0) (asked : LinkAct (List ℕ)) → P (core_act_on core 0 asked (Some bench)) → P (core_act core 0 asked)
+  on_bench : (P : CoreActResult → Type 0) (asked : LinkAct (List ℕ)) → P (core_act_on core 0 asked (Some bench)) → P (core_act core 0 asked)
   on_bench P asked is = subst (λ (found : Option BenchState). P (core_act_on core 0 asked found)) (sym there) is
 
   -- and leaves of the core, by what it leaves of link and actors
-  has_acted : (asked : LinkAct (List ℕ)) (left : BenchState) (told : ActAnswer) → HasActed (act_on_core core bench 0 asked) left core.actors 0 told
-      → HasCoreActed (core_act core 0 asked) (record core { bench = Some left }) 0 (Some told)
+  has_acted : (asked : LinkAct (List ℕ)) (left : BenchState) (told : ActAnswer) → HasActResult (act_on_core core bench 0 asked) left core.actors 0 told
+      → HasCoreActResult (core_act core 0 asked) (record core { bench = Some left }) 0 (Some told)
   has_acted asked left told is =
-      on_bench (λ (acted : CoreActed). HasCoreActed acted (record core { bench = Some left }) 0 (Some told)) asked (record {
+      on_bench (λ (acted : CoreActResult). HasCoreActResult acted (record core { bench = Some left }) 0 (Some told)) asked (record {
         core = ap (λ (found : BenchState). record core { bench = Some found }) is.bench
             ∙ ap (λ (seen : ActorsState). record core { bench = Some (act_on_core core bench 0 asked).bench; actors = seen }) is.watcher;
         steps = is.steps;
         answer = ap Some is.answer;
       })
 
-  caller_joins : (end : End) (number : Option ℕ) → HasActed (caller_act bench core.actors 0 end number) (with_new_caller bench end number) core.actors 0 (caller_answer end number)
+  caller_joins : (end : End) (number : Option ℕ) → HasActResult (caller_act bench core.actors 0 end number) (with_new_caller bench end number) core.actors 0 (caller_answer end number)
   caller_joins end None = record { bench = refl; watcher = refl; steps = refl; answer = refl }
   caller_joins end (Some number) = record { bench = refl; watcher = refl; steps = refl; answer = refl }
 
   -- a new caller
   pub caller_acted : (end : End) → let number = free_number (link_in bench).callers in
-      HasCoreActed (core_act core 0 (act.Caller end)) (record core { bench = Some (with_new_caller bench end number) }) 0 (Some (caller_answer end number))
+      HasCoreActResult (core_act core 0 (act.Caller end)) (record core { bench = Some (with_new_caller bench end number) }) 0 (Some (caller_answer end number))
   unfolding link_act
   caller_acted end = let number = free_number (link_in bench).callers in has_acted (act.Caller end) (with_new_caller bench end number) (caller_answer end number) (caller_joins end number)
 
   module _ (caller : ℕ) where
     -- what is asked for a caller below 2, and for another
-    by_own : (is_own : Bool) → nat_lt caller 2 ≡ is_own → (acted : Acted ActorsState)
+    by_own : (is_own : Bool) → nat_lt caller 2 ≡ is_own → (acted : ActResult ActorsState)
         → unless_own bench core.actors 0 (cond (nat_lt caller 2) (Some caller) None) acted ≡ unless_own bench core.actors 0 (cond is_own (Some caller) None) acted
     by_own is_own is acted = ap (λ (test : Bool). unless_own bench core.actors 0 (cond test (Some caller) None) acted) is
 
     -- a reclaim
     pub reclaim_acted : nat_lt caller 2 ≡ false → let why = link_reclaim_refusal (link_in bench) caller in
-        HasCoreActed (core_act core 0 (act.Reclaim caller)) (record core { bench = Some (reclaim_leaves bench caller why) }) 0
+        HasCoreActResult (core_act core 0 (act.Reclaim caller)) (record core { bench = Some (reclaim_leaves bench caller why) }) 0
         (Some (answer_of_reclaim caller (reclaim_answer (end_of (link_in bench).callers caller) why)))
     unfolding link_act
     reclaim_acted other =
         let why = link_reclaim_refusal (link_in bench) caller in
         let told = answer_of_reclaim caller (reclaim_answer (end_of (link_in bench).callers caller) why) in
         has_acted (act.Reclaim caller) (reclaim_leaves bench caller why) told
-        (subst (λ (acted : Acted ActorsState). HasActed acted (reclaim_leaves bench caller why) core.actors 0 told)
+        (subst (λ (acted : ActResult ActorsState). HasActResult acted (reclaim_leaves bench caller why) core.actors 0 told)
         (sym (by_own false other (reclaim_act bench core.actors 0 caller))) (record { bench = refl; watcher = refl; steps = refl; answer = refl }))
 
     -- one that is the core's own
-    pub own_reclaim : nat_lt caller 2 ≡ true → HasCoreActed (core_act core 0 (act.Reclaim caller)) (record core { bench = Some bench }) 0 (Some (answer.Refused caller fault.NoCaller))
+    pub own_reclaim : nat_lt caller 2 ≡ true → HasCoreActResult (core_act core 0 (act.Reclaim caller)) (record core { bench = Some bench }) 0 (Some (answer.Refused caller fault.NoCaller))
     unfolding link_act
     own_reclaim own =
         has_acted (act.Reclaim caller) bench (answer.Refused caller fault.NoCaller)
-        (subst (λ (acted : Acted ActorsState). HasActed acted bench core.actors 0 (answer.Refused caller fault.NoCaller))
+        (subst (λ (acted : ActResult ActorsState). HasActResult acted bench core.actors 0 (answer.Refused caller fault.NoCaller))
         (sym (by_own true own (reclaim_act bench core.actors 0 caller))) (record { bench = refl; watcher = refl; steps = refl; answer = refl }))
 
     -- a step that nothing refuses
@@ -111,8 +111,8 @@ module _ (core : CoreState) (bench : BenchState) (there : core.bench ≡ Some be
         (subst (λ (found : Option BenchState). (if nat_lt caller 2 then Some fault.NoCaller else option_and_then (λ (bench : BenchState). step_fault bench caller) found) ≡ None) there may) in
         let walked = walk_act actors_after_end core.actors caller (advance_walk bench 0 0 caller) in
         let after = λ (why : Option BenchFault). unless_refused bench core.actors 0 (option_map (answer.Refused caller) why) walked in
-        on_bench (λ (acted : CoreActed). acted.answer ≡ Some (answer.Reached caller (advance_walk bench 0 0 caller).reach)) (act.Step caller 0)
-        (ap (λ (acted : Acted ActorsState). Some acted.answer) (by_own false free.0 (after (step_fault bench caller)) ∙ ap after free.1))
+        on_bench (λ (acted : CoreActResult). acted.answer ≡ Some (answer.Reached caller (advance_walk bench 0 0 caller).reach)) (act.Step caller 0)
+        (ap (λ (acted : ActResult ActorsState). Some acted.answer) (by_own false free.0 (after (step_fault bench caller)) ∙ ap after free.1))
 
 -- an act answers how far a call of this caller came
 pub record HasReached (told : Option ActAnswer) (caller : ℕ) : Type 0 where

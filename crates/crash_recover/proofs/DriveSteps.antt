@@ -4,7 +4,7 @@ use Rattle.std.proofs.lemmas.Bool.{and_right, cond_both, true≢false}
 use Rattle.link_bench.specs.Benches.{BenchState}
 use Rattle.core_actors.specs.declared.actors.Actor.{Actor}
 use Rattle.core_actors.specs.declared.actors.Actor.TheVariants as actor
-use Rattle.core_actors.specs.declared.progress.Driven.TheVariants as driven
+use Rattle.core_actors.specs.declared.progress.DriveOutcome.TheVariants as driven
 use Rattle.core_actors.specs.Actors.{ActorsState, other_actor}
 use Rattle.core_actors.specs.ActorSteps.{host_is_idle, worker_is_idle}
 use Rattle.crash_recover.specs.Cores.{CoreState}

@@ -33,7 +33,7 @@ use Rattle.lane_model.proofs.SoundLanes.{turn_step_has}
 use Rattle.channel_bus.specs.Sides.{EndState, side_meaning}
 use Rattle.link_bench.specs.declared.benches.BegunCall.{BegunCall}
 use Rattle.link_bench.specs.declared.benches.Reach.TheVariants as reach
-use Rattle.link_bench.specs.Benches.{BenchState, BenchWalk, LinkRings, advance_steps, advance_walk, begun_call_of, bench_walk, call_steps, call_walk, later_steps, link_in, lists_of, on_rings, start_walk, with_begun}
+use Rattle.link_bench.specs.Benches.{BenchState, BenchWalk, LinkRings, advance_steps, advance_walk, begun_call_of, bench_walk, call_steps, call_walk, later_steps, link_in, lists_of, on_rings, start_walk, with_begun_call}
 use Rattle.link_bench.proofs.KeptWalks.{call_keeps, later_keeps}
 use Rattle.crash_recover.specs.KeptCores.{IsKeptBench, IsKeptLink, IsUnmanagedLane, IsUnmanagedTurn}
 
@@ -163,7 +163,7 @@ module _ (life : CoreLife) where
       → IsKeptBench life (advance_steps bench more steps caller found).bench
   advance_at bench more steps caller (Some call) is =
       cond_both (eqb steps STEPS_MOST) (record { bench = bench; steps = steps; reach = reach.Limit })
-      (bench_walk (with_begun bench caller None) (call_steps on_rings more steps bench.rings caller call.follows call.wish))
+      (bench_walk (with_begun_call bench caller None) (call_steps on_rings more steps bench.rings caller call.follows call.wish))
       (λ (walk : BenchWalk). IsKeptBench life walk.bench) (λ _. is) (λ _. call_kept more steps bench.rings caller call.follows call.wish is)
   advance_at bench more steps caller None is = later_kept (more + 1) 0 steps bench.rings caller is
 

@@ -17,7 +17,7 @@ use Rattle.link_bench.specs.declared.benches.Reach.{Reach}
 use Rattle.link_bench.specs.declared.benches.Reach.TheVariants as reach
 use Rattle.link_bench.specs.Acts.{IsFitAct, link_act}
 use Rattle.link_bench.specs.BenchCrashes.{after_reopen, reclaim_leaves}
-use Rattle.link_bench.specs.Benches.{AreFitCalls, BenchState, advance_fault, advance_walk, begun_call_of, is_in_call, link_in, step_fault, with_begun, with_new_caller}
+use Rattle.link_bench.specs.Benches.{AreFitCalls, BenchState, advance_fault, advance_walk, begun_call_of, is_in_call, link_in, step_fault, with_begun_call, with_new_caller}
 use Rattle.link_bench.specs.BenchEnds.{bench_to_reopen, crashed_bench, with_new_host_unless}
 use Rattle.link_bench.specs.Watchers.{watcher_after}
 use Rattle.link_bench.proofs.CrashWalks.{crash_walk, remote_walk}
@@ -135,7 +135,7 @@ joined_ready state actors bench end is = record { begun = record { host = is.beg
 
 -- a call that is begun
 pub begins_ready : (state : LifeState) (actors : ActorsState) (bench : BenchState) (caller : ℕ) (call : BegunCall) → 1 < caller → IsReadyLink state actors (Some bench)
-    → IsReadyLink state actors (Some (with_begun bench caller (Some call)))
+    → IsReadyLink state actors (Some (with_begun_call bench caller (Some call)))
 begins_ready state actors bench caller call other is =
     record { begun = begun_none bench caller call other is.begun; calls = λ up. (begun_ready actors bench caller other is.begun (is.calls up) call).1 }
 

@@ -4,40 +4,40 @@ use Rattle.link_bench.specs.declared.acts.ActAnswer.{ActAnswer}
 use Rattle.link_bench.specs.declared.acts.LinkAct.{LinkAct}
 use Rattle.link_bench.specs.declared.acts.LinkAct.TheVariants as act
 use Rattle.link_bench.specs.Benches.{BenchState}
-use Rattle.link_bench.specs.Acts.{Acted, link_act}
+use Rattle.link_bench.specs.Acts.{ActResult, link_act}
 use Rattle.core_actors.specs.Actors.{ActorsState}
 use Rattle.crash_recover.specs.declared.core_acts.TheConstants.{OWN_CALLERS}
 use Rattle.crash_recover.specs.Cores.{CoreState}
 use Rattle.core_actors.specs.ActorEnds.{actors_after_end}
 
 -- what an act leaves of a core, the steps of the run until then, and what comes of it, or nothing where the core has no link
-pub record CoreActed : Type 0 where
+pub record CoreActResult : Type 0 where
   pub core : CoreState
   pub steps : ℕ
   pub answer : Option ActAnswer
 
 -- an act left and answered this
-pub record HasCoreActed (acted : CoreActed) (left : CoreState) (counted : ℕ) (told : Option ActAnswer) : Type 0 where
+pub record HasCoreActResult (acted : CoreActResult) (left : CoreState) (counted : ℕ) (told : Option ActAnswer) : Type 0 where
   pub core : left ≡ acted.core
   pub steps : counted ≡ acted.steps
   pub answer : told ≡ acted.answer
 
 -- the core with what an act leaves of its link and of its actors
-abbrev pub core_after_act : CoreState → Acted ActorsState → CoreState
+abbrev pub core_after_act : CoreState → ActResult ActorsState → CoreState
 core_after_act core acted = record core { bench = Some acted.bench; actors = acted.watcher }
 
 -- an act on the link of a core
-abbrev pub act_on_core : CoreState → BenchState → ℕ → LinkAct (List ℕ) → Acted ActorsState
+abbrev pub act_on_core : CoreState → BenchState → ℕ → LinkAct (List ℕ) → ActResult ActorsState
 act_on_core core bench steps act = link_act actors_after_end OWN_CALLERS bench core.actors steps act
 
 -- an act on the link that a core has or not
-abbrev pub core_act_on : CoreState → ℕ → LinkAct (List ℕ) → Option BenchState → CoreActed
+abbrev pub core_act_on : CoreState → ℕ → LinkAct (List ℕ) → Option BenchState → CoreActResult
 core_act_on core steps act None = record { core = core; steps = steps; answer = None }
 core_act_on core steps act (Some bench) =
     let acted = act_on_core core bench steps act in
     record { core = core_after_act core acted; steps = acted.steps; answer = Some acted.answer }
 
-abbrev pub core_act : CoreState → ℕ → LinkAct (List ℕ) → CoreActed
+abbrev pub core_act : CoreState → ℕ → LinkAct (List ℕ) → CoreActResult
 core_act core steps act = core_act_on core steps act core.bench
 
 -- a pump that ends early leaves what a pump of so many of its turns leaves of the core, or of fewer

@@ -15,7 +15,7 @@ use Rattle.crash_recover.specs.declared.core_acts.TheConstants.{OWN_CALLERS}
 use Rattle.crash_recover.specs.declared.core_callers.StepFault.{StepFault}
 use Rattle.crash_recover.specs.declared.core_callers.StepFault.TheVariants as step
 use Rattle.link_bench.specs.declared.benches.Reach.{Reach}
-use Rattle.link_bench.specs.Benches.{BenchState, begin_fault, link_in, step_fault, with_begun}
+use Rattle.link_bench.specs.Benches.{BenchState, begin_fault, link_in, step_fault, with_begun_call}
 use Rattle.link_bench.specs.BenchRings.{bench_snapshot, snapshot_at, turn_holder}
 use Rattle.crash_recover.specs.Cores.{CoreState, loaded_rings}
 
@@ -36,7 +36,7 @@ core_begin_fault core caller wanted = core_fault caller (option_and_then (λ (be
 
 -- the link on which a caller has begun this call, which follows the incarnation that the link is in
 abbrev pub bench_with_call : BenchState → ℕ → Wish → BenchState
-bench_with_call bench caller wanted = with_begun bench caller (Some (record { follows = (link_in bench).era.inc; wish = wanted }))
+bench_with_call bench caller wanted = with_begun_call bench caller (Some (record { follows = (link_in bench).era.inc; wish = wanted }))
 
 -- the core then
 abbrev pub with_core_call : CoreState → ℕ → Wish → CoreState

@@ -8,8 +8,8 @@ use Rattle.remote_core.specs.Works.{work_of, memory_after}
 use Rattle.link_bench.specs.Benches.{BenchState, BenchWalk}
 use Rattle.core_actors.specs.declared.actors.Actor.{Actor}
 use Rattle.core_actors.specs.declared.actors.Actor.TheVariants as actor
-use Rattle.core_actors.specs.declared.progress.Driven.{Driven}
-use Rattle.core_actors.specs.declared.progress.Driven.TheVariants as driven
+use Rattle.core_actors.specs.declared.progress.DriveOutcome.{DriveOutcome}
+use Rattle.core_actors.specs.declared.progress.DriveOutcome.TheVariants as driven
 use Rattle.core_actors.specs.Actors.{ActorsState, other_actor}
 use Rattle.core_actors.specs.ActorSteps.{actors_after_record, drive_of_reach, drive_of_work, first_or_take, has_calls, host_after_step, host_at_step, host_is_idle, link_step, with_next_after, worker_after_step, worker_is_idle}
 use Rattle.crash_recover.specs.Cores.{CoreState, LoadState}
@@ -20,7 +20,7 @@ use Rattle.crash_recover.specs.CoreCrashes.{after_report, link_incarnation}
 -- a step of a core's actors, and what it was
 pub record DriveStep : Type 0 where
   pub core : CoreState
-  pub driven : Driven
+  pub driven : DriveOutcome
 
 -- a step of the host actor on a core's link
 abbrev pub host_walk_step : CoreState → BenchWalk → ActorsState → DriveStep
@@ -49,7 +49,7 @@ abbrev pub placed_map : List Region → LoadState → Mapping
 placed_map regions load = record { blocks = mapped_blocks regions load.placed; memory_len = memory_len regions }
 
 -- the core, of which a step of the worker may have reported a crash
-abbrev pub core_with_report : Driven → CoreState → CoreState
+abbrev pub core_with_report : DriveOutcome → CoreState → CoreState
 core_with_report driven.Idle core = core
 core_with_report driven.Stepped core = core
 core_with_report (driven.Ended caller end) core = core
@@ -57,7 +57,7 @@ core_with_report (driven.Worker fault closed) core = after_report core
 core_with_report (driven.Crashed kind closed) core = after_report core
 
 -- the step with the incarnation that the report closed: the core was up, so its link was open
-abbrev pub driven_with_report : Driven → CoreState → Driven
+abbrev pub driven_with_report : DriveOutcome → CoreState → DriveOutcome
 driven_with_report driven.Idle core = driven.Idle
 driven_with_report driven.Stepped core = driven.Stepped
 driven_with_report (driven.Ended caller end) core = driven.Ended caller end

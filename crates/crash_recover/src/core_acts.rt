@@ -1,7 +1,7 @@
 ghost use Rattle.std.specs.Prelude.{IfOk, IfSome, OnErr};
 ghost use Rattle.link_bench.specs.Acts.{HoldsAnswerTaken, IsFitAct, bare_act};
 ghost use Rattle.link_bench.specs.Benches.{link_in};
-ghost use Rattle.crash_recover.specs.CoreActs.{HasCoreActed, IsCutOnCore, core_act};
+ghost use Rattle.crash_recover.specs.CoreActs.{HasCoreActResult, IsCutOnCore, core_act};
 
 use crate::cores::Core;
 use link_bench::{ActAnswer, LinkAct, StepCount};
@@ -25,7 +25,7 @@ impl Core {
         steps: &mut StepCount,
     ) -> Result<Option<ActAnswer>, NoMemory>
         requires fit { IsFitAct (bare_act (λ bytes. bytes.now) act.now) }
-        ensures acted { IfOk result (HasCoreActed (core_act self.old steps.old (bare_act (λ bytes. bytes.now) act.now)) self.new steps.new) }
+        ensures acted { IfOk result (HasCoreActResult (core_act self.old steps.old (bare_act (λ bytes. bytes.now) act.now)) self.new steps.new) }
         ensures taken { IfOk result (λ found. IfSome found (λ answer. IfSome self.new.bench (λ bench. HoldsAnswerTaken (link_in bench) answer))) }
         ensures cut { OnErr result (IsCutOnCore self.old steps.old (bare_act (λ bytes. bytes.now) act.now) self.new) }
     {

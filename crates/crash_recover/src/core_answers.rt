@@ -54,7 +54,7 @@ pub enum Leave {
 
 impl Leave {
     /// How many users are left, or none.
-    pub(crate) fn left(self) -> Left
+    pub(crate) fn in_short(self) -> Left
         ensures { result ≡ leave_in_short self }
     {
         match self {

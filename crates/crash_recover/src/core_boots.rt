@@ -110,7 +110,7 @@ impl Core {
         ensures refused { IfOk result (λ answer. OnErr answer (self.new ≡ self.old)) }
         ensures unchanged { OnErr result (self.new ≡ self.old) }
     {
-        match self.load_found(alloc, found)? {
+        match self.load_or_fault(alloc, found)? {
             Ok(loaded) => Ok(Ok(self.run_image(alloc, life, name, loaded)?)),
             Err(fault) => Ok(Err(fault)),
         }
@@ -196,7 +196,7 @@ impl Core {
         ensures refused { IfOk result (λ answer. OnErr answer (self.new ≡ self.old)) }
         ensures unchanged { OnErr result (self.new ≡ self.old) }
     {
-        match self.load_found(alloc, found)? {
+        match self.load_or_fault(alloc, found)? {
             Ok(loaded) => {
                 self.life = life;
                 self.image = Some(name);
@@ -238,7 +238,7 @@ impl Core {
     }
 
     /// What an image that was found becomes in the memory of the core.
-    pub(crate) fn load_found(
+    pub(crate) fn load_or_fault(
         &self,
         alloc: Global,
         found: Result<&[u8], NoImage>,

@@ -5,7 +5,7 @@ ghost use Rattle.link_bench.specs.Benches.{HoldsReachTaken, link_in};
 ghost use Rattle.link_bench.specs.BenchRings.{IsSnapshotFault};
 ghost use Rattle.link_bench.specs.declared.acts.ActAnswer.TheVariants as answer;
 ghost use Rattle.link_bench.specs.declared.acts.LinkAct.TheVariants as act;
-ghost use Rattle.crash_recover.specs.CoreActs.{HasCoreActed, core_act};
+ghost use Rattle.crash_recover.specs.CoreActs.{HasCoreActResult, core_act};
 ghost use Rattle.crash_recover.specs.CoreCallers.{IsStepFault, caller_answer, core_begin_fault, core_channels, core_receiver, core_snapshot, core_step_fault, core_turn_holder, reach_of, with_core_call};
 ghost use Rattle.crash_recover.specs.declared.core_acts.TheConstants.{OWN_CALLERS};
 
@@ -44,7 +44,7 @@ impl Core {
     /// A new caller at this end of the core's link, as [`Bench::caller`] gives one.
     pub fn caller(&mut self, end: End) -> Option<CallerNo>
         requires { is_some self.old.bench ≡ true }
-        ensures acted { HasCoreActed (core_act self.old 0 (act.Caller end)) self.new 0 (Some (caller_answer end result)) }
+        ensures acted { HasCoreActResult (core_act self.old 0 (act.Caller end)) self.new 0 (Some (caller_answer end result)) }
         ensures linked { is_some self.new.bench ≡ true }
     {
         let Some(bench) = &mut self.bench else {
@@ -138,7 +138,7 @@ impl Core {
     /// Errors: [`BenchFault::NoCaller`] exactly where the caller isn't in use, or is the core's own.
     pub fn reclaim(&mut self, caller: CallerNo) -> Result<Reclaim, BenchFault>
         requires { is_some self.old.bench ≡ true }
-        ensures acted { HasCoreActed (core_act self.old 0 (act.Reclaim caller)) self.new 0 (Some (answer_of_reclaim caller result)) }
+        ensures acted { HasCoreActResult (core_act self.old 0 (act.Reclaim caller)) self.new 0 (Some (answer_of_reclaim caller result)) }
         ensures linked { is_some self.new.bench ≡ true }
     {
         let Some(bench) = &mut self.bench else {

@@ -8,7 +8,7 @@ ghost use Rattle.link_bench.specs.Benches.{link_in};
 ghost use Rattle.crash_recover.specs.Drives.{core_with_report, drive_step, driven_with_report, is_idle, is_idle_actor, record_run, record_step, step_or_rest, with_turn_after};
 
 use crate::cores::Core;
-use core_actors::{Actor, Driven, HOST_CALLER, WORKER_CALLER};
+use core_actors::{Actor, DriveOutcome, HOST_CALLER, WORKER_CALLER};
 use rp_base::NoMemory;
 use std::alloc::Global;
 
@@ -30,14 +30,14 @@ impl Core {
     /// of its calls.
     ///
     /// Errors: only for want of memory. The core is as it was then.
-    pub fn drive_step(&mut self, alloc: Global) -> Result<Driven, NoMemory>
+    pub fn drive_step(&mut self, alloc: Global) -> Result<DriveOutcome, NoMemory>
         requires { is_up self.old.life.state ≡ true }
         ensures driven { IfOk result (λ driven. driven ≡ (drive_step self.old).driven) }
         ensures taken { IfOk result (λ driven. IfSome self.new.bench (λ bench. HoldsDrivenTaken (link_in bench) driven)) }
         ensures left { OnOk result (self.new ≡ (drive_step self.old).core) }
         ensures unchanged { OnErr result (self.new ≡ self.old) }
     {
-        let mut driven = Driven::Idle;
+        let mut driven = DriveOutcome::Idle;
         self.drive_on(alloc, &mut driven)?;
         Ok(driven)
     }
@@ -46,7 +46,7 @@ impl Core {
     ///
     /// Errors: only for want of memory. The core is as it was then.
     #[inline]
-    pub fn drive_on(&mut self, _alloc: Global, driven: &mut Driven) -> Result<(), NoMemory>
+    pub fn drive_on(&mut self, _alloc: Global, driven: &mut DriveOutcome) -> Result<(), NoMemory>
         requires { is_up self.old.life.state ≡ true }
         ensures rests { OnOk result (is_rest driven.new ≡ is_idle self.old) }
         ensures driven { OnOk result (driven.new ≡ (drive_step self.old).driven) }
@@ -73,7 +73,7 @@ impl Core {
 
     /// A step of the host actor, unless it has nothing to do. The next turn is the worker's then.
     #[inline(always)]
-    fn host_step(&mut self, driven: &mut Driven) -> Result<(), NoMemory>
+    fn host_step(&mut self, driven: &mut DriveOutcome) -> Result<(), NoMemory>
         requires { is_up self.old.life.state ≡ true }
         ensures rests { OnOk result (is_rest driven.new ≡ is_idle_actor self.old actor.Host) }
         ensures driven { OnOk result (driven.new ≡ (step_or_rest actor.Host self.old).driven) }
@@ -82,12 +82,12 @@ impl Core {
         ensures unchanged { OnErr result (self.new ≡ self.old) }
     {
         let Some(bench) = &mut self.bench else {
-            *driven = Driven::Idle;
+            *driven = DriveOutcome::Idle;
             return Ok(());
         };
         let goes_on = bench.is_caller_busy(HOST_CALLER);
         if !goes_on && self.actors.host_waits(bench) {
-            *driven = Driven::Idle;
+            *driven = DriveOutcome::Idle;
             return Ok(());
         }
         self.actors.host_step(bench, goes_on, driven)
@@ -95,7 +95,7 @@ impl Core {
 
     /// A step of the worker, unless it has nothing to do. The next turn is the host actor's then.
     #[inline(always)]
-    fn worker_step(&mut self, driven: &mut Driven) -> Result<(), NoMemory>
+    fn worker_step(&mut self, driven: &mut DriveOutcome) -> Result<(), NoMemory>
         requires { is_up self.old.life.state ≡ true }
         ensures rests { OnOk result (is_rest driven.new ≡ is_idle_actor self.old actor.Worker) }
         ensures driven { OnOk result (driven.new ≡ (step_or_rest actor.Worker self.old).driven) }
@@ -104,12 +104,12 @@ impl Core {
         ensures unchanged { OnErr result (self.new ≡ self.old) }
     {
         if self.loaded.is_none() {
-            *driven = Driven::Idle;
+            *driven = DriveOutcome::Idle;
             return Ok(());
         }
         let Some(bench) = &mut self.bench else {
             if self.actors.is_halted() {
-                *driven = Driven::Idle;
+                *driven = DriveOutcome::Idle;
                 return Ok(());
             }
             return self.record_step(driven);
@@ -117,7 +117,7 @@ impl Core {
         let goes_on = bench.is_caller_busy(WORKER_CALLER);
         if !goes_on {
             if self.actors.worker_waits(bench) {
-                *driven = Driven::Idle;
+                *driven = DriveOutcome::Idle;
                 return Ok(());
             }
             if !self.actors.has_worker_calls() {
@@ -129,7 +129,7 @@ impl Core {
 
     /// The worker of a core that is loaded, which makes no call, runs one record. A crash is reported.
     #[inline(always)]
-    fn record_step(&mut self, driven: &mut Driven) -> Result<(), NoMemory>
+    fn record_step(&mut self, driven: &mut DriveOutcome) -> Result<(), NoMemory>
         requires up { is_up self.old.life.state ≡ true }
         requires loaded { is_some self.old.loaded ≡ true }
         requires silent { has_calls self.old.bench self.old.actors ≡ false }
@@ -147,7 +147,7 @@ impl Core {
     /// The worker of a core that is loaded, which makes no call, runs one record. A crash is not reported
     /// yet.
     #[inline(always)]
-    fn run_record(&mut self, driven: &mut Driven) -> Result<(), NoMemory>
+    fn run_record(&mut self, driven: &mut DriveOutcome) -> Result<(), NoMemory>
         requires loaded { is_some self.old.loaded ≡ true }
         requires silent { has_calls self.old.bench self.old.actors ≡ false }
         ensures works { OnOk result (is_rest driven.new ≡ false) }
@@ -167,7 +167,7 @@ impl Core {
     }
 
     /// Reports the crash that a step of the worker was, if it was one, and says what that closed.
-    fn report_crash(&mut self, driven: &mut Driven)
+    fn report_crash(&mut self, driven: &mut DriveOutcome)
         requires up { is_up self.old.life.state ≡ true }
         ensures core { self.new ≡ core_with_report driven.old self.old }
         ensures driven { driven.new ≡ driven_with_report driven.old self.old }
@@ -175,9 +175,9 @@ impl Core {
         ensures taken { (link : LinkState EndState) → HoldsDrivenTaken link driven.old → HoldsDrivenTaken link driven.new }
     {
         match driven {
-            Driven::Worker(_, closed) => *closed = self.crash_worker(),
-            Driven::Crashed(_, closed) => *closed = self.crash_worker(),
-            Driven::Idle | Driven::Stepped | Driven::Ended(_, _) => {}
+            DriveOutcome::Worker(_, closed) => *closed = self.crash_worker(),
+            DriveOutcome::Crashed(_, closed) => *closed = self.crash_worker(),
+            DriveOutcome::Idle | DriveOutcome::Stepped | DriveOutcome::Ended(_, _) => {}
         }
     }
 }

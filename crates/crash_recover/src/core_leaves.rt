@@ -22,7 +22,7 @@ impl Core {
         ensures answer { result ≡ (in_short leave_in_short core_fault_of_leave (shutdown_of true self.old)).answer }
         ensures left { self.new ≡ (shutdown_of true self.old).core }
     {
-        Ok(self.shutdown_within(true)?.left())
+        Ok(self.shutdown_within(true)?.in_short())
     }
 
     /// [`Core::shutdown`], where a step may be taken or not: the close of a live link is one. Where it
@@ -85,7 +85,7 @@ impl Core {
         ensures answer { result ≡ (in_short leave_in_short core_fault_of_leave (detach_of true self.old)).answer }
         ensures left { self.new ≡ (detach_of true self.old).core }
     {
-        Ok(self.detach_within(true)?.left())
+        Ok(self.detach_within(true)?.in_short())
     }
 
     /// [`Core::detach`], where a step may be taken or not: the close of a live link is one. Where it may

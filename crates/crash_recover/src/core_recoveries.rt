@@ -123,7 +123,7 @@ impl Core {
         ensures loaded { IfOk result (λ answer. IfOk answer (λ loaded. load_view loaded ≡ load_in self.now (result_map_both (λ image. image.now) (λ why. why) found.entry))) }
         ensures sound { IfOk result (λ answer. IfOk answer (IsSoundLoad self.now.regions)) }
     {
-        match self.load_found(alloc, found)? {
+        match self.load_or_fault(alloc, found)? {
             Ok(loaded) => {
                 if self.has_rings(&loaded.rings) {
                     Ok(Ok(loaded))

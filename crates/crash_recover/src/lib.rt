@@ -14,7 +14,7 @@ mod core_recoveries;
 mod core_rings;
 mod cores;
 
-pub use core_actors::{Actor, Actors, Driven};
+pub use core_actors::{Actor, Actors, DriveOutcome};
 pub use core_answers::{Boot, Crash, Leave, Start};
 pub use core_callers::StepFault;
 pub use core_faults::{AddFault, CALLER_OUT, CoreFault, LeaveFault, RINGS_CHANGED, StartFault};

@@ -19,7 +19,7 @@ use Rattle.crash_recover.specs.Cores.{LoadState}
 use Rattle.crash_recover.specs.Drives.{placed_map}
 use Rattle.demo_laws.proofs.BootBounds.{AreRoomy}
 use Rattle.demo_laws.proofs.DriveBounds.{IsProgram}
-use Rattle.script_run.specs.Demos.{accepted_from, counted_output, demo_output}
+use Rattle.script_run.specs.Demos.{counts_from, counted_output, demo_output}
 use Rattle.command_run.specs.Runs.{new_run, run_of}
 use Rattle.command_run.specs.Stores.{store_of}
 use Rattle.image_maker.proofs.DemoSizes.{demo_is_said}
@@ -63,7 +63,7 @@ pub demo_goes_on : (sessions : ℕ) → sessions ≤ 500 → (run_of (store_of [
 demo_goes_on sessions few = demo_ends IsAtRecord records_left credit_of bootable sessions few
 
 -- so it writes how much was accepted
-pub demo_writes : (sessions : ℕ) → sessions ≤ 500 → demo_output sessions ≡ counted_output sessions (accepted_from new_run (demo_commands sessions)) None
+pub demo_writes : (sessions : ℕ) → sessions ≤ 500 → demo_output sessions ≡ counted_output sessions (counts_from new_run (demo_commands sessions)) None
 demo_writes sessions few =
     demo_is sessions (demo_commands sessions) (demo_is_said sessions few)
-    ∙ ap (counted_output sessions (accepted_from new_run (demo_commands sessions))) (demo_goes_on sessions few)
+    ∙ ap (counted_output sessions (counts_from new_run (demo_commands sessions))) (demo_goes_on sessions few)

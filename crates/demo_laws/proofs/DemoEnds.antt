@@ -21,23 +21,20 @@ use Rattle.image_maker.specs.Demo.{core_commands, demo_commands, first_sessions,
 use Rattle.image_maker.specs.Images.{image_of}
 use Rattle.crash_recover.specs.declared.core_faults.AddFault.{AddFault}
 use Rattle.crash_recover.specs.declared.core_faults.LeaveFault.{LeaveFault}
-use Rattle.crash_recover.specs.declared.core_faults.LeaveFault.TheVariants as leave_fault
 use Rattle.crash_recover.specs.declared.core_faults.StartFault.{StartFault}
-use Rattle.crash_recover.specs.CoreBoots.{boot_as, boot_of, first_boot, image_fault, load_in, load_of, started_core, with_load}
-use Rattle.crash_recover.specs.CoreLeaves.{close_or, leave_as, live_inc, shutdown_of, unloaded_core}
+use Rattle.crash_recover.specs.CoreBoots.{image_fault, load_in, load_of, started_core, with_load}
+use Rattle.crash_recover.specs.CoreLeaves.{shutdown_of, unloaded_core}
 use Rattle.crash_recover.specs.declared.core_answers.Leave.{Leave}
 use Rattle.crash_recover.specs.declared.core_answers.Leave.TheVariants as leave
 use Rattle.crash_recover.specs.declared.core_answers.Start.{Start}
-use Rattle.crash_recover.specs.declared.core_answers.Start.TheVariants as start
-use Rattle.link_bench.specs.BenchHolds.{caller_out}
-use Rattle.crash_recover.specs.Cores.{CoreOutcome, CoreState, driver_add_fault, refuse_or}
+use Rattle.crash_recover.specs.Cores.{CoreOutcome, CoreState, driver_add_fault}
 use Rattle.crash_recover.specs.Drives.{drive_step, placed_map}
 use Rattle.command_run.specs.CoreDrives.{drive_effect, drive_steps, is_crashed}
 use Rattle.command_run.specs.CoreEffects.{CoreEffect, core_tells, core_tells_all}
-use Rattle.command_run.specs.CoreLives.{found_image, found_or_told, image_bytes, leave_effect, may_step, shutdown_effect, started_effect}
+use Rattle.command_run.specs.CoreLives.{found_image, image_or, image_bytes, leave_effect, may_step, shutdown_effect, started_effect}
 use Rattle.command_run.specs.NamedCores.{NamedCoreState}
 use Rattle.command_run.specs.NamedImages.{ImageState}
-use Rattle.std.proofs.Common.{◌-◌, not, bytes_eq, option_map, option_and_then, nat_le}
+use Rattle.std.proofs.Common.{◌-◌, not, bytes_eq, option_map, nat_le}
 use Rattle.std.specs.Prelude.{find}
 use Rattle.std.proofs.lemmas.Bool.{leb-true, ne_eqb}
 use Rattle.std.proofs.lemmas.List.{append_assoc, append-nil}
@@ -45,7 +42,6 @@ use Rattle.std.proofs.lemmas.List.Elements.{All-head, All-tail}
 use Rattle.rp_base.specs.declared.kinds.Switch.{Switch}
 use Rattle.rp_base.specs.declared.kinds.Switch.TheVariants as switch
 use Rattle.rp_base.specs.declared.limits.TheConstants.{IMAGE_MOST}
-use Rattle.proc_state.specs.declared.answers.LifeFault.{LifeFault}
 use Rattle.proc_state.specs.declared.answers.LifeFault.TheVariants as life_fault
 use Rattle.proc_state.specs.declared.answers.Left.{Left}
 use Rattle.proc_state.specs.declared.answers.Left.TheVariants as left
@@ -66,7 +62,7 @@ use Rattle.script_run.specs.Demos.{bare_effect}
 use Rattle.command_run.specs.Runs.{ObjectsState, Run, RunEffect, RunState, core_effect_at, effect_of, new_run, quiet_effect, run_from, run_of, run_tells}
 use Rattle.script_run.proofs.DemoSums.{bare_is, goes_on as goes_on_run}
 use Rattle.command_run.proofs.RunSteps.{run_none}
-use Rattle.run_laws.specs.Drives.{after_steps, drive_made, rests}
+use Rattle.run_laws.specs.Drives.{after_steps, drive_length_within, rests}
 use Rattle.run_laws.proofs.CommandWalks.{ActsOnCore, ActsOnLink, CommandOutcome, FindsImage, MakesCore, MakesImage, NamesNothing, outcome}
 use Rattle.run_laws.proofs.RunWalks.{item_at}
 use Rattle.run_laws.proofs.ScriptDrives.{awake, drive_as, steps_keep}
@@ -76,7 +72,8 @@ use Rattle.crash_recover.specs.declared.core_faults.StartFault.TheVariants as st
 use Rattle.demo_laws.proofs.BootBounds.{AreRoomy, boot_within, users_within}
 use Rattle.demo_laws.proofs.DriveBounds.{IsProgram, IsWithin, drive_within, more_on}
 use Rattle.crash_recover.proofs.SameLives.{no_first}
-use Rattle.core_laws.proofs.Outcomes.{none_mapped, refused}
+use Rattle.core_laws.proofs.CallOutcomes.{Attaches, BootOutcome, Empties, IsOut, LeaveOutcome, NoLeave, NoStep, OneFewer, OneMore, Runs, boot_outcome, shutdown_outcome}
+use Rattle.core_laws.proofs.Outcomes.{none_mapped}
 use Rattle.run_laws.proofs.RegionsSound.{regions_driven}
 
 -- the images of a demo's workers, where they load, have a program of so few records, and rings with room
@@ -174,7 +171,7 @@ module _ (Fits : WorkerState → Type 0) (records credit : WorkerState → ℕ) 
       driven : core.life.state ≡ Running → LeavesCalm steps 7999 (drive_steps count name is_quiet core steps)
       driven running =
           let last = steps + 7999 in
-          let made = drive_made count core steps in
+          let made = drive_length_within count core steps in
           let all : 7999 ≡ last - steps = omega arith in
           let went = steps_keep (GoesWithin last) (step_within last) count core steps
           (record { regions = is.regions; few = omega arith; came = inr (running, subst (DrivesWithin core) all (is.runs running)) }) in
@@ -197,7 +194,7 @@ module _ (Fits : WorkerState → Type 0) (records credit : WorkerState → ℕ) 
   IsDemoFound (Ok bytes) = IsDemoImage bytes × (length bytes ≤ IMAGE_MOST)
   IsDemoFound (Err why) = Unit {0}
 
-  told_found : (found : Option (List ℕ)) → IfSome found IsDemoImage → IsDemoFound (found_or_told (Err no_image.Missing) found)
+  told_found : (found : Option (List ℕ)) → IfSome found IsDemoImage → IsDemoFound (image_or (Err no_image.Missing) found)
   told_found None is_demo = tt
   told_found (Some bytes) is_demo =
       cond_both (nat_le (length bytes) IMAGE_MOST) (Ok bytes) (Err (no_image.TooLarge (length bytes))) IsDemoFound
@@ -227,28 +224,26 @@ module _ (Fits : WorkerState → Type 0) (records credit : WorkerState → ℕ) 
           (started life reply running small (subst (λ (b : List ℕ). length b ≤ IMAGE_MOST) same short) (subst (λ (b : List ℕ). load_fault b core.regions ≡ None) same fits));
     }
 
-    loaded : (life : CoreLife) (found : ImageAnswer) → life.state ≡ Running → IsDemoFound found
-        → IsCalm (refuse_or core (image_fault core found) (record { core = started_core life (with_load core image (load_in core found)); answer = Ok (start.Running life.incarnation) })).core
-    loaded life (Err why) running is_demo = is
-    loaded life (Ok bytes) running is_demo =
-        refused IsCalm core (image_fault core (Ok bytes)) _ is (λ fits. starts life bytes running is_demo.0 is_demo.1 (none_mapped start_fault.Load (load_fault bytes core.regions) fits))
+    loaded : (life : CoreLife) (found : ImageAnswer) → life.state ≡ Running → image_fault core found ≡ None → IsDemoFound found → IsCalm (started_core life (with_load core image (load_in core found)))
+    loaded life (Err why) running clear is_demo = absurd (cc)
+    loaded life (Ok bytes) running clear is_demo = starts life bytes running is_demo.0 is_demo.1 (none_mapped start_fault.Load (load_fault bytes core.regions) clear)
 
     first_running : (answer : (first_start Running 1 power.First core.life).answer ≡ Ok power.First) → (first_start Running 1 power.First core.life).life.state ≡ Running
     first_running =
         cond_both (core.life.incarnation == most) (refusal_of life_fault.IncarnationsSpent core.life) _ (λ (out : Outcome Power). out.answer ≡ Ok power.First → out.life.state ≡ Running)
         (λ _ is. absurd (cc)) (λ _ _. refl)
 
-    first_at : (state : LifeState) (found : ImageAnswer) → core.life.state ≡ state → (boot_to (line_of state).boot core.life).answer ≡ Ok power.First → IsDemoFound found
-        → IsCalm (first_boot (boot_to (line_of state).boot core.life).life core image found).core
-    first_at Offline found there first is_demo =
-        let life = (first_start Running 1 power.First core.life).life in
-        cond_both (is_offline core.life.state) _ _ (λ (out : CoreOutcome Start StartFault). IsCalm out.core)
-        (λ _. loaded life found (first_running first) is_demo)
-        (λ other. absurd (true≢false (sym (ap is_offline there) ∙ other)))
-    first_at Running found there first is_demo = absurd (no_first core.life first)
-    first_at Crashed found there first is_demo = absurd (no_first core.life first)
-    first_at Attached found there first is_demo = absurd (true≢false (sym (sym (ap is_own there) ∙ is.own)))
-    first_at Detached found there first is_demo = absurd (true≢false (sym (sym (ap is_own there) ∙ is.own)))
+    -- a core that is offline runs, and no core of a demo is attached
+    runs_first : (state : LifeState) → is_offline state ≡ true → (boot_to (line_of state).boot core.life).answer ≡ Ok power.First → (boot_to (line_of state).boot core.life).life.state ≡ Running
+    runs_first Offline off first = first_running first
+    runs_first other off first = absurd (true≢false (sym off))
+
+    attaches_none : (state : LifeState) → core.life.state ≡ state → is_offline state ≡ false → (boot_to (line_of state).boot core.life).answer ≡ Ok power.First → ⊥
+    attaches_none Offline there on first = true≢false on
+    attaches_none Running there on first = no_first core.life first
+    attaches_none Crashed there on first = no_first core.life first
+    attaches_none Attached there on first = true≢false (sym (sym (ap is_own there) ∙ is.own))
+    attaches_none Detached there on first = true≢false (sym (sym (ap is_own there) ∙ is.own))
 
     -- one user more
     counted : (to : Option LifeState) (users : ℕ) → (boot_to to core.life).answer ≡ Ok (power.Counted users) → IsCalm (record core { life = (boot_to to core.life).life })
@@ -260,19 +255,16 @@ module _ (Fits : WorkerState → Type 0) (records credit : WorkerState → ℕ) 
         cond_both (core.life.incarnation == most) (refusal_of life_fault.IncarnationsSpent core.life) _ (λ (out : Outcome Power). out.answer ≡ Ok (power.Counted users) → IsCalm (record core { life = out.life }))
         (λ _ is. absurd (cc)) (λ _ is. absurd (cc)) answer
 
-    boot_at : (found : ImageAnswer) (answer : Result Power LifeFault) → (life_after_boot core.life).answer ≡ answer → IsDemoFound found → IsCalm (boot_as (life_after_boot core.life).life answer core image found).core
-    boot_at found (Err why) answer is_demo = is
-    boot_at found (Ok (power.Counted users)) answer is_demo = counted (line_of core.life.state).boot users answer
-    boot_at found (Ok power.First) answer is_demo = first_at core.life.state found refl answer is_demo
-
-    booted : (found : ImageAnswer) → IsDemoFound found → IsCalm (boot_of core image found).core
-    unfolding boot_of
-    booted found is_demo = boot_at found (life_after_boot core.life).answer refl is_demo
+    outcome_calm : (found : ImageAnswer) {out : CoreOutcome Start StartFault} → BootOutcome core image found out → IsDemoFound found → IsCalm out.core
+    outcome_calm found (OneMore users answer) is_demo = counted (line_of core.life.state).boot users answer
+    outcome_calm found (Runs first off clear) is_demo = loaded (life_after_boot core.life).life found (runs_first core.life.state off first) clear is_demo
+    outcome_calm found (Attaches first on) is_demo = absurd (attaches_none core.life.state refl on first)
+    outcome_calm found came is_demo = is
 
     boot_calm : (images : List ImageState) → All (λ (made : ImageState). IsDemoImage made.bytes) images → LeavesCalm steps 0 (started_effect (start_act.Boot image) images (Err no_image.Missing) (record { name = name; core = core }) steps)
     unfolding started_effect
     boot_calm images all = record {
-      calm = booted (found_image images (Err no_image.Missing) image) (told_found (image_bytes images image) (demo_found images image all));
+      calm = outcome_calm (found_image images (Err no_image.Missing) image) (boot_outcome core image (found_image images (Err no_image.Missing) image)) (told_found (image_bytes images image) (demo_found images image all));
       ending = refl;
       steps = omega arith;
     }
@@ -289,23 +281,12 @@ module _ (Fits : WorkerState → Type 0) (records credit : WorkerState → ℕ) 
     leave_calm last left (Ok leave.Limit) calm goes = absurd (goes refl)
 
     -- where a step may be taken, none is asked in vain
-    closes : (gone : CoreState) (live : Option ℕ) → (close_or true core gone live).answer ≡ Ok leave.Limit → ⊥
-    closes gone None is = absurd (cc)
-    closes gone (Some inc) is = absurd (cc)
-
-    leaves_last : (gone : CoreState) (why : Option LeaveFault) → (refuse_or core why (close_or true core gone (live_inc core.bench))).answer ≡ Ok leave.Limit → ⊥
-    leaves_last gone None is = closes gone (live_inc core.bench) is
-    leaves_last gone (Some why) is = absurd (cc)
-
-    leaves : (gone : CoreState) (life : CoreLife) (answer : Result Left LifeFault) → (leave_as true core gone life answer).answer ≡ Ok leave.Limit → ⊥
-    leaves gone life (Err why) is = absurd (cc)
-    leaves gone life (Ok (left.Users users)) is = absurd (cc)
-    leaves gone life (Ok left.Last) is = leaves_last gone (option_map leave_fault.CallerOut (option_and_then caller_out core.bench)) is
-
-    not_limit : (may : Bool) → may ≡ true → (shutdown_of may core).answer ≡ Ok leave.Limit → ⊥
-    unfolding shutdown_of
-    not_limit false may is = absurd (true≢false (sym may))
-    not_limit true may is = leaves (unloaded_core (life_after_shutdown core.life).life core) (life_after_shutdown core.life).life (life_after_shutdown core.life).answer is
+    not_limit : {may : Bool} {gone : CoreState} {after : Outcome Left} {out : CoreOutcome Leave LeaveFault} → LeaveOutcome may core gone after out → may ≡ true → out.answer ≡ Ok leave.Limit → ⊥
+    not_limit (NoLeave why) may is = absurd (cc)
+    not_limit (OneFewer users answer) may is = absurd (cc)
+    not_limit (IsOut caller out) may is = absurd (cc)
+    not_limit (NoStep none) may is = true≢false (sym may ∙ none)
+    not_limit (Empties all live was) may is = absurd (cc)
 
     -- one user fewer
     fewer : (to : Option LifeState) (users : ℕ) → (leave_to life_fault.NotPowered to core.life).answer ≡ Ok (left.Users users) → IsCalm (record core { life = (leave_to life_fault.NotPowered to core.life).life })
@@ -319,10 +300,6 @@ module _ (Fits : WorkerState → Type 0) (records credit : WorkerState → ℕ) 
     last_off =
         cond_both (core.life.users == 1) _ _ (λ (out : Outcome Left). out.answer ≡ Ok left.Last → out.life.state ≡ Offline) (λ _ _. refl) (λ _ is. absurd (cc))
 
-    closed_calm : (may : Bool) (live : Option ℕ) {gone : CoreState} → IsCalm gone → IsCalm (close_or may core gone live).core
-    closed_calm may None {gone} calm = calm
-    closed_calm may (Some inc) {gone} calm = cond_both may _ _ (λ (out : CoreOutcome Leave LeaveFault). IsCalm out.core) (λ _. calm) (λ _. is)
-
     -- none are left: the core is offline
     off : (state : LifeState) → (leave_to life_fault.NotPowered (line_of state).shutdown core.life).answer ≡ Ok left.Last → (leave_to life_fault.NotPowered (line_of state).shutdown core.life).life.state ≡ Offline
     off Offline answer = absurd (cc)
@@ -331,23 +308,16 @@ module _ (Fits : WorkerState → Type 0) (records credit : WorkerState → ℕ) 
     off Running answer = last_off answer
     off Attached answer = last_off answer
 
-    left_at : (may : Bool) (answer : Result Left LifeFault) → (life_after_shutdown core.life).answer ≡ answer
-        → IsCalm (leave_as may core (unloaded_core (life_after_shutdown core.life).life core) (life_after_shutdown core.life).life answer).core
-    left_at may (Err why) answer = is
-    left_at may (Ok (left.Users users)) answer = fewer (line_of core.life.state).shutdown users answer
-    left_at may (Ok left.Last) answer =
-        let there = off core.life.state answer in
-        let gone : IsCalm (unloaded_core (life_after_shutdown core.life).life core) = record { regions = is.regions; own = ap is_own there; runs = λ running. absurd (true≢false (sym (ap is_up (sym there ∙ running)))) } in
-        refused IsCalm core (option_map leave_fault.CallerOut (option_and_then caller_out core.bench)) _ is (λ _. closed_calm may (live_inc core.bench) gone)
-
-    left_calm : (may : Bool) → IsCalm (shutdown_of may core).core
-    unfolding shutdown_of
-    left_calm may = left_at may (life_after_shutdown core.life).answer refl
+    left_calm : {may : Bool} {out : CoreOutcome Leave LeaveFault} → LeaveOutcome may core (unloaded_core (life_after_shutdown core.life).life core) (life_after_shutdown core.life) out → IsCalm out.core
+    left_calm (OneFewer users answer) = fewer (line_of core.life.state).shutdown users answer
+    left_calm (Empties all live was) =
+        let there = off core.life.state all in record { regions = is.regions; own = ap is_own there; runs = λ running. absurd (true≢false (sym (ap is_up (sym there ∙ running)))) }
+    left_calm came = is
 
     shutdown_calm : steps + 1 ≤ STEPS_MOST → LeavesCalm steps 1 (shutdown_effect name core steps)
     unfolding shutdown_effect
     shutdown_calm few =
-        leave_calm (event.Offline name) (shutdown_of (may_step steps) core).core (shutdown_of (may_step steps) core).answer (left_calm (may_step steps)) (not_limit (may_step steps) (steps_left steps few))
+        leave_calm (event.Offline name) (shutdown_of (may_step steps) core).core (shutdown_of (may_step steps) core).answer (left_calm (shutdown_outcome (may_step steps) core)) (not_limit (shutdown_outcome (may_step steps) core) (steps_left steps few))
 
     offline_at : (state : LifeState) (why : Option AddFault) → cond (is_offline state) why (Some add.NotOffline) ≡ None → state ≡ Running → ⊥
     offline_at state why none running =

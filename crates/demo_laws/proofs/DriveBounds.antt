@@ -49,7 +49,7 @@ use Rattle.std.proofs.Common.{◌≢◌, ⊎_elim}
 use Rattle.std.proofs.lemmas.Bool.{cases_lt}
 use Rattle.core_actors.specs.declared.actors.Actor.{Actor}
 use Rattle.core_actors.specs.declared.actors.Actor.TheVariants as actor
-use Rattle.core_actors.specs.declared.progress.Driven.{Driven}
+use Rattle.core_actors.specs.declared.progress.DriveOutcome.{DriveOutcome}
 use Rattle.crash_recover.specs.CoreCrashes.{after_report, report_of}
 use Rattle.core_actors.specs.Actors.{other_actor}
 use Rattle.core_actors.specs.ActorSteps.{drive_of_work, has_calls, wishes_of_work, worker_is_idle}
@@ -188,7 +188,7 @@ no_calls (first ∷ later) none = absurd (true≢false (sym (ap not (ne_eqb (suc
 abbrev of_caller : Option BenchState → ℕ → Wish → Option Bool
 of_caller found caller wanted = Some (caller == 1)
 
-abbrev of_record : Driven → CoreState → Option Bool
+abbrev of_record : DriveOutcome → CoreState → Option Bool
 of_record came left = Some false
 
 -- a step is made, and one of the worker on the link where it has a call to make

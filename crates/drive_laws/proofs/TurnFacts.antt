@@ -14,8 +14,8 @@ use Rattle.remote_core.specs.declared.workers.Work.{Work}
 use Rattle.remote_core.specs.declared.workers.Work.TheVariants as work
 use Rattle.core_actors.specs.declared.actors.Actor.{Actor}
 use Rattle.core_actors.specs.declared.actors.Actor.TheVariants as actor
-use Rattle.core_actors.specs.declared.progress.Driven.{Driven}
-use Rattle.core_actors.specs.declared.progress.Driven.TheVariants as driven
+use Rattle.core_actors.specs.declared.progress.DriveOutcome.{DriveOutcome}
+use Rattle.core_actors.specs.declared.progress.DriveOutcome.TheVariants as driven
 use Rattle.core_actors.specs.Actors.{ActorsState, other_actor}
 use Rattle.crash_recover.specs.Cores.{CoreState}
 use Rattle.core_actors.specs.ActorEnds.{actors_after_end, actors_at_end, end_answer, message_of, sends_of}
@@ -120,7 +120,7 @@ work_busy (work.Fault fault) core = refl
 abbrev none_on_link : Option BenchState → ℕ → Wish → Bool
 none_on_link found caller wanted = false
 
-abbrev none_on_record : Driven → CoreState → Bool
+abbrev none_on_record : DriveOutcome → CoreState → Bool
 none_on_record came core = false
 
 rest_parts : HoldOfParts true none_on_link none_on_record (λ (core : CoreState). Unit {0}) (λ (step : DriveStep) (rest : Bool). is_rest step.driven ≡ rest)

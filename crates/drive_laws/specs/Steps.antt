@@ -25,10 +25,10 @@ after_steps zero core = core
 after_steps (suc more) core = after_steps more (drive_step core).core
 
 -- how many of so many steps are made
-abbrev pub steps_made : ℕ → CoreState → ℕ
-steps_made zero core = 0
-steps_made (suc more) core = if rests core then 0 else suc (steps_made more (drive_step core).core)
+abbrev pub drive_length : ℕ → CoreState → ℕ
+drive_length zero core = 0
+drive_length (suc more) core = if rests core then 0 else suc (drive_length more (drive_step core).core)
 
 -- the core after a drive of so many steps
 abbrev pub after_drive : ℕ → CoreState → CoreState
-after_drive count core = after_steps (steps_made count core) core
+after_drive count core = after_steps (drive_length count core) core

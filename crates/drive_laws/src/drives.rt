@@ -13,7 +13,7 @@ ghost use Rattle.remote_core.specs.Works.{after_work};
 ghost use Rattle.link_bench.specs.Benches.{BenchState, advance_walk, is_in_call, start_walk};
 ghost use Rattle.core_actors.specs.declared.actors.Actor.{Actor};
 ghost use Rattle.core_actors.specs.declared.actors.Actor.TheVariants as actor;
-ghost use Rattle.core_actors.specs.declared.progress.Driven.TheVariants as driven;
+ghost use Rattle.core_actors.specs.declared.progress.DriveOutcome.TheVariants as driven;
 ghost use Rattle.core_actors.specs.Actors.{ActorsState, other_actor};
 ghost use Rattle.crash_recover.specs.Cores.{CoreState, LoadState};
 ghost use Rattle.core_actors.specs.ActorEnds.{actors_after_end};
@@ -21,7 +21,7 @@ ghost use Rattle.core_actors.specs.ActorSteps.{has_calls};
 ghost use Rattle.crash_recover.specs.Drives.{drive_step, is_idle, is_idle_actor, placed_map};
 ghost use Rattle.drive_laws.specs.Places.{StaysAt, GoesOn};
 ghost use Rattle.drive_laws.specs.Queues.{IsQueued, IsServed};
-ghost use Rattle.drive_laws.specs.Steps.{step_by, rests, after_steps, steps_made, after_drive};
+ghost use Rattle.drive_laws.specs.Steps.{step_by, rests, after_steps, drive_length, after_drive};
 
 /// The actors take turns: a step is that of the actor whose turn it is, or that of the other where this one has nothing to do, and behind it
 /// the turn is that of the one who did not make it. Where both have nothing to do there is no step.
@@ -100,10 +100,10 @@ pub fn records()
 /// A drive of so many steps is as many steps of the actors, or fewer exactly where the core has crashed or both actors have nothing to do. A
 /// drive of n + m steps is one of n and then one of m, where the first n were all made.
 pub fn drive()
-    ensures most { (count : ℕ) (core : CoreState) → steps_made count core ≤ count }
-    ensures fewer { (count : ℕ) (core : CoreState) → steps_made count core < count → rests (after_drive count core) ≡ true }
-    ensures made { (count done : ℕ) (core : CoreState) → done < steps_made count core → rests (after_steps done core) ≡ false }
-    ensures parts { (count more : ℕ) (core : CoreState) → steps_made count core ≡ count
-        → (steps_made (count + more) core ≡ count + steps_made more (after_drive count core))
+    ensures most { (count : ℕ) (core : CoreState) → drive_length count core ≤ count }
+    ensures fewer { (count : ℕ) (core : CoreState) → drive_length count core < count → rests (after_drive count core) ≡ true }
+    ensures made { (count done : ℕ) (core : CoreState) → done < drive_length count core → rests (after_steps done core) ≡ false }
+    ensures parts { (count more : ℕ) (core : CoreState) → drive_length count core ≡ count
+        → (drive_length (count + more) core ≡ count + drive_length more (after_drive count core))
         × (after_drive (count + more) core ≡ after_drive more (after_drive count core)) }
 {}

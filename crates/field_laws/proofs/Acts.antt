@@ -44,13 +44,13 @@ use Rattle.link_bench.specs.Watchers.{Seeing}
 use Rattle.link_bench.proofs.ActAnswers.{AreTurnsOf, Came, CameBy, EndsTurns, HasNumber, IsAnswer, IsCallerOf, IsFaultOf, IsNamed, OfCall, OfSteps, Reaches}
 use Rattle.link_bench.proofs.ActParts.{KeptByParts, does_kept}
 use Rattle.link_bench.proofs.ActWalks.{FitCalls, act_done, act_kept}
-use Rattle.link_bench.proofs.Begun.{begin_may}
+use Rattle.link_bench.proofs.BegunCalls.{begin_may}
 use Rattle.link_bench.proofs.SendableActs.{calls_sendable}
 use Rattle.core_laws.specs.BenchMoves.{IsReachedBench}
 use Rattle.core_laws.proofs.BenchMoves.{advanced, begun_reached, called, enlisted, reclaim_tried}
 use Rattle.core_laws.proofs.CrashReclaims.{reached_sound}
 use Rattle.field_laws.specs.Fields.{AreBytes, IsFieldLink, IsFieldWish}
-use Rattle.field_laws.specs.FieldBenches.{IsFieldAct, IsFieldActed, IsFieldBench, IsFieldBenchFault, IsFieldCall, IsFieldReach, IsFieldReclaim, IsFieldTurnEnd}
+use Rattle.field_laws.specs.FieldBenches.{IsFieldAct, IsFieldActResult, IsFieldBench, IsFieldBenchFault, IsFieldCall, IsFieldReach, IsFieldReclaim, IsFieldTurnEnd}
 use Rattle.field_laws.proofs.Benches.{advance_fields, begun_fields, call_fields, caller_fields, tried_fields}
 use Rattle.field_laws.proofs.Bytes.{message_bytes, number_bytes}
 use Rattle.field_laws.proofs.Lanes.{counts_small}
@@ -266,7 +266,7 @@ module _ {W : Type 0} (sees : Seeing W) (own : ℕ) (bench : BenchState) (watche
     )
     turn_fields (turn_end.Reached caller came) told = (caller_small asked caller fit told.0, came_fields told.1)
 
-    answer_fields : (parts : List ActPart) (left : BenchState) (told : ActAnswer) → IsAnswer sees own IsFit bench watcher asked parts left told → IsFieldActed told
+    answer_fields : (parts : List ActPart) (left : BenchState) (told : ActAnswer) → IsAnswer sees own IsFit bench watcher asked parts left told → IsFieldActResult told
     answer_fields parts left (answer.Caller number end) free =
         let less = position_within (link_in bench).callers number free in let len = is.fields.link.callers in omega (arith, less, len)
     answer_fields parts left answer.CallersFull comes = tt
@@ -284,7 +284,7 @@ module _ {W : Type 0} (sees : Seeing W) (own : ℕ) (bench : BenchState) (watche
 
 -- what an act answers
 pub act_told : {W : Type 0} (sees : Seeing W) (own : ℕ) (bench : BenchState) (watcher : W) (steps : ℕ) (asked : LinkAct (List ℕ)) → IsFitAct asked → IsFieldAct asked → HoldsBench bench
-    → IsFieldActed (link_act sees own bench watcher steps asked).answer
+    → IsFieldActResult (link_act sees own bench watcher steps asked).answer
 act_told sees own bench watcher steps asked fit fields is =
     let acted = link_act sees own bench watcher steps asked in
     answer_fields sees own bench watcher is asked fit fields (act_parts sees own bench watcher steps asked) acted.bench acted.answer

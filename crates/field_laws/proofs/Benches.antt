@@ -35,8 +35,8 @@ use Rattle.link_bench.specs.declared.benches.BegunCall.{BegunCall}
 use Rattle.link_bench.specs.declared.benches.Reach.TheVariants as reach
 use Rattle.link_bench.specs.BenchCrashes.{after_close, after_reclaim, after_reopen, reclaim_leaves, reclaim_leaves_at}
 use Rattle.link_bench.specs.BenchEnds.{bench_to_reopen, crashed_bench, with_fresh_caller, with_new_host_unless}
-use Rattle.link_bench.specs.Benches.{BenchState, BenchWalk, IsSendable, Walk, LinkRings, advance_steps, advance_walk, begin_fault, begin_walk, begun_call_of, bench_walk, call_steps, call_walk, is_in_call, later_steps, link_in, lists_of, new_bench_of, on_lists, on_rings, start_walk, walk_lists, walk_on, with_begun, with_new_caller}
-use Rattle.link_bench.proofs.Begun.{begin_may}
+use Rattle.link_bench.specs.Benches.{BenchState, BenchWalk, IsSendable, Walk, LinkRings, advance_steps, advance_walk, begin_fault, begin_walk, begun_call_of, bench_walk, call_steps, call_walk, is_in_call, later_steps, link_in, lists_of, new_bench_of, on_lists, on_rings, start_walk, walk_lists, walk_on, with_begun_call, with_new_caller}
+use Rattle.link_bench.proofs.BegunCalls.{begin_may}
 use Rattle.link_bench.proofs.CrashWalks.{crash_walk, remote_walk}
 use Rattle.link_bench.proofs.FitCalls.{begun_at, begun_or, calling_may}
 use Rattle.link_bench.proofs.KeptWalks.{next_may}
@@ -132,7 +132,7 @@ advance_at bench more steps caller (Some call) found in_call reached is =
     let may = reached.fit caller call (begun_at (slice_get bench.begun caller) call found) in
     let left = call_on more steps bench.rings caller call.follows call.wish may (holds_link bench reached is) (begun_wish bench caller call is found) in
     cond_both (eqb steps STEPS_MOST) (record { bench = bench; steps = steps; reach = reach.Limit })
-    (bench_walk (with_begun bench caller None) (call_steps on_rings more steps bench.rings caller call.follows call.wish)) HoldsBenchWalk
+    (bench_walk (with_begun_call bench caller None) (call_steps on_rings more steps bench.rings caller call.follows call.wish)) HoldsBenchWalk
     (λ _. record { bench = is; reach = tt })
     (λ _. record { bench = record { link = left.link.fields; begun = cleared bench.begun caller is.begun }; reach = left.reach })
 advance_at bench more steps caller None none in_call reached is =
@@ -158,7 +158,7 @@ pub start_fields : (bench : BenchState) (steps caller : ℕ) (wanted : Wish) →
 start_fields bench steps caller wanted ready sendable wishes reached is = called_to bench 0 steps caller wanted ready sendable wishes reached is
 
 pub begun_fields : (bench : BenchState) (caller : ℕ) (wanted : Wish) → IsFieldWish wanted → IsFieldBench bench
-    → IsFieldBench (with_begun bench caller (Some (record { follows = (link_in bench).era.inc; wish = wanted })))
+    → IsFieldBench (with_begun_call bench caller (Some (record { follows = (link_in bench).era.inc; wish = wanted })))
 begun_fields bench caller wanted wishes is = record { link = is.link; begun = All-set IsFieldBegun bench.begun caller (Some (record { follows = (link_in bench).era.inc; wish = wanted })) wishes is.begun }
 
 -- ---- callers

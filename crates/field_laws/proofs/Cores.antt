@@ -18,8 +18,7 @@ use Rattle.proc_state.specs.declared.answers.LifeFault.TheVariants as life_fault
 use Rattle.proc_state.specs.declared.answers.Power.{Power}
 use Rattle.proc_state.specs.declared.answers.Power.TheVariants as power
 use Rattle.proc_state.specs.declared.answers.Report.{Report}
-use Rattle.proc_state.specs.declared.answers.Report.TheVariants as report
-use Rattle.proc_state.specs.Lives.{CoreLife, Outcome, boot_to, crash_as, first_start, handover_to, is_offline, is_up, leave_to, life_after_boot, life_after_crash, life_after_detach, life_after_handover, life_after_recovery, life_after_shutdown, line_of, most, new_life, recovery_fault, recovery_state, recovery_to, refusal_of, with_user}
+use Rattle.proc_state.specs.Lives.{CoreLife, Outcome, boot_to, crash_as, first_start, handover_to, is_offline, is_up, leave_to, life_after_boot, life_after_recovery, line_of, most, new_life, recovery_state, recovery_to, refusal_of, with_user}
 use Rattle.memory_pool.specs.declared.regions.Region.{Region}
 use Rattle.memory_pool.specs.Soundness.{SoundRegions}
 use Rattle.fw_load.specs.declared.faults.LoadFault.{LoadFault}
@@ -43,15 +42,18 @@ use Rattle.link_bench.specs.BenchHolds.{caller_out, is_out}
 use Rattle.link_bench.specs.Benches.{BenchState, link_in, new_bench_of, with_new_caller}
 use Rattle.core_actors.specs.Actors.{driver_names, fresh_actors}
 use Rattle.crash_recover.specs.declared.core_answers.Crash.{Crash}
-use Rattle.crash_recover.specs.declared.core_faults.LeaveFault.TheVariants as leave_fault
 use Rattle.crash_recover.specs.declared.core_faults.StartFault.{StartFault}
 use Rattle.crash_recover.specs.declared.core_faults.StartFault.TheVariants as start_fault
-use Rattle.crash_recover.specs.CoreBoots.{boot_as, boot_of, config_of, core_bench, first_boot, fresh_end, handover_as, handover_of, image_fault, load_in, started_core, with_load}
-use Rattle.crash_recover.specs.CoreCrashes.{crashed_core, first_report, link_incarnation, report_as, report_of}
-use Rattle.crash_recover.specs.CoreLeaves.{close_or, detach_of, detached_core, leave_as, live_inc, shutdown_of, unloaded_core}
-use Rattle.crash_recover.specs.CoreRecoveries.{core_to_reopen, fault_with, recovery_of, reload_fault, reopen_fault, rings_fault}
-use Rattle.crash_recover.specs.Cores.{CoreOutcome, CoreState, loaded_rings, new_core, refuse_or}
+use Rattle.crash_recover.specs.declared.core_answers.Leave.{Leave}
+use Rattle.crash_recover.specs.declared.core_answers.Start.{Start}
+use Rattle.crash_recover.specs.declared.core_faults.LeaveFault.{LeaveFault}
+use Rattle.crash_recover.specs.CoreBoots.{boot_of, config_of, core_bench, fresh_end, handover_of, image_fault, load_in, started_core, with_load}
+use Rattle.crash_recover.specs.CoreCrashes.{link_incarnation, report_of}
+use Rattle.crash_recover.specs.CoreLeaves.{detach_of, live_inc, shutdown_of}
+use Rattle.crash_recover.specs.CoreRecoveries.{core_to_reopen, fault_with, recovery_of, reload_fault, rings_fault}
+use Rattle.crash_recover.specs.Cores.{CoreOutcome, CoreState, loaded_rings, new_core}
 use Rattle.core_laws.specs.BenchMoves.{IsReachedBench, IsReachedCore}
+use Rattle.core_laws.proofs.CallOutcomes.{Attaches, BootOutcome, Empties, GoesDown, HandoverOutcome, HandsOver, IsDown, IsOut, LeaveOutcome, NoBoot, NoHandover, NoImage, NoImageGiven, NoLeave, NoRecovery, NoReload, NoReopening, NoReport, NoStep, NoStepLeft, OneFewer, OneMore, RecoveryOutcome, ReportOutcome, Restarts, Runs, boot_outcome, detach_outcome, handover_outcome, recovery_outcome, report_outcome, shutdown_outcome}
 use Rattle.core_laws.proofs.CoreMoves.{found_reopened, map_has, readied, reopens}
 use Rattle.core_laws.proofs.Outcomes.{first_none}
 use Rattle.crash_recover.proofs.Restarts.{restarts}
@@ -253,11 +255,6 @@ pub record HoldsOut {A E : Type 0} (P : A → Type 0) (R : E → Type 0) (out : 
   pub core : IsFieldCore out.core
   pub answer : IsFieldResult P R out.answer
 
-refused : {A E : Type 0} (P : A → Type 0) (R : E → Type 0) (core : CoreState) (why : Option E) (done : CoreOutcome A E) → IsFieldCore core → IfSome why R → (why ≡ None → HoldsOut P R done)
-    → HoldsOut P R (refuse_or core why done)
-refused P R core None done is fields rest = rest refl
-refused P R core (Some why) done is fields rest = record { core = is; answer = fields }
-
 load_fault_fields : (found : Option LoadFault) → IfSome found IsFieldRefused → IfSome (option_map start_fault.Load found) IsFieldStartFault
 load_fault_fields None is = tt
 load_fault_fields (Some why) is = is
@@ -302,57 +299,57 @@ started_fields life core is up small called loaded placed =
       calls = no_calls core _;
     }
 
-first_at : (life : CoreLife) (core : CoreState) (name : List ℕ) (found : ImageAnswer) → IsFieldLife life → is_up life.state ≡ true → IsImageName name → IfOk found AreBytes → SoundRegions core.regions → IsFieldCore core
-    → HoldsOut IsFieldStart IsFieldStartFault (first_boot life core name found)
-first_at life core name found living up called are sound is =
-    let few = living.incarnation in
-    cond_both (is_offline core.life.state) _ _ (HoldsOut IsFieldStart IsFieldStartFault)
-    (λ _. refused IsFieldStart IsFieldStartFault core (image_fault core found) _ is (image_fields core found are)
-    (λ clear. record {
-      core = started_fields life (with_load core name (load_in core found)) living up is.book called (load_fields core found are) (load_placed core found sound clear);
-      answer = omega (arith, few);
-    }))
-    (λ _. record { core = started_fields life core living up is.book is.image is.loaded is.placed; answer = omega (arith, few) })
+-- what is known of a refusal that is there
+there : {X : Type 0} (P : X → Type 0) {found : Option X} {why : X} → found ≡ Some why → IfSome found P → P why
+there P is holds = subst (λ (found : Option _). IfSome found P) is holds
 
-boot_at : (life : CoreLife) (answer : Result Power LifeFault) (core : CoreState) (name : List ℕ) (found : ImageAnswer) → IsFieldLife life → IfOk answer IsFieldPower → (is_offline life.state ≡ true → is_offline core.life.state ≡ true)
-    → (answer ≡ Ok power.First → is_up life.state ≡ true) → IsImageName name → IfOk found AreBytes → SoundRegions core.regions → IsFieldCore core → HoldsOut IsFieldStart IsFieldStartFault (boot_as life answer core name found)
-boot_at life (Err why) core name found living told off up called are sound is = record { core = is; answer = tt }
-boot_at life (Ok (power.Counted users)) core name found living told off up called are sound is = record {
-  core = record { book = is.book; life = living; image = is.image; loaded = is.loaded; placed = is.placed; rest = λ there. is.rest (off there); bench = is.bench; calls = is.calls };
-  answer = told;
-}
-boot_at life (Ok power.First) core name found living told off up called are sound is = first_at life core name found living (up refl) called are sound is
+answered : {A E : Type 0} (P : A → Type 0) {found : Result A E} {told : A} → found ≡ Ok told → IfOk found P → P told
+answered P is holds = subst (λ (found : Result _ _). IfOk found P) is holds
 
-pub boot_fields : (core : CoreState) (name : List ℕ) (found : ImageAnswer) → IsImageName name → IfOk found AreBytes → SoundRegions core.regions → IsFieldCore core → HoldsOut IsFieldStart IsFieldStartFault (boot_of core name found)
-unfolding boot_of
-boot_fields core name found called are sound is =
-    let after = boot_to_life (line_of core.life.state).boot core.life is.life in
-    boot_at (life_after_boot core.life).life (life_after_boot core.life).answer core name found after.life after.answer (boot_off core.life.state core.life) (starts_up core.life) called are sound is
+module _ (core : CoreState) (name : List ℕ) (found : ImageAnswer) (called : IsImageName name) (are : IfOk found AreBytes) (sound : SoundRegions core.regions) (is : IsFieldCore core) where
+  boot_holds : {out : CoreOutcome Start StartFault} → BootOutcome core name found out → HoldsOut IsFieldStart IsFieldStartFault out
+  boot_holds (NoBoot why) = record { core = is; answer = tt }
+  boot_holds (NoImage why refuses) = record { core = is; answer = there IsFieldStartFault refuses (image_fields core found are) }
+  boot_holds (OneMore users answer) =
+      let after = boot_to_life (line_of core.life.state).boot core.life is.life in
+      record {
+        core = record { book = is.book; life = after.life; image = is.image; loaded = is.loaded; placed = is.placed; rest = λ off. is.rest (boot_off core.life.state core.life off); bench = is.bench; calls = is.calls };
+        answer = answered IsFieldPower answer after.answer;
+      }
+  boot_holds (Runs first off clear) =
+      let after = (boot_to_life (line_of core.life.state).boot core.life is.life).life in
+      let few = after.incarnation in
+      record {
+        core = started_fields (life_after_boot core.life).life (with_load core name (load_in core found)) after (starts_up core.life first) is.book called (load_fields core found are) (load_placed core found sound clear);
+        answer = omega (arith, few);
+      }
+  boot_holds (Attaches first on) =
+      let after = (boot_to_life (line_of core.life.state).boot core.life is.life).life in
+      let few = after.incarnation in
+      record { core = started_fields (life_after_boot core.life).life core after (starts_up core.life first) is.book is.image is.loaded is.placed; answer = omega (arith, few) }
 
-handover_at : (life : CoreLife) (answer : Result (Unit {0}) LifeFault) (core : CoreState) (name : List ℕ) (found : ImageAnswer) → IsFieldLife life
-    → ((done : Unit {0}) → answer ≡ Ok done → is_offline life.state ≡ true → ⊥) → IsImageName name → IfOk found AreBytes → SoundRegions core.regions → IsFieldCore core → HoldsOut IsFieldStart IsFieldStartFault (handover_as life answer core name found)
-handover_at life (Err why) core name found living off called are sound is = record { core = is; answer = tt }
-handover_at life (Ok done) core name found living off called are sound is =
-    refused IsFieldStart IsFieldStartFault core (image_fault core found) _ is (image_fields core found are)
-    (λ clear. record {
-      core = record {
-        book = is.book;
-        life = living;
-        image = called;
-        loaded = load_fields core found are;
-        placed = load_placed core found sound clear;
-        rest = λ there. absurd (off done refl there);
-        bench = is.bench;
-        calls = is.calls;
-      };
-      answer = tt;
-    })
+  pub boot_fields : HoldsOut IsFieldStart IsFieldStartFault (boot_of core name found)
+  boot_fields = boot_holds (boot_outcome core name found)
 
-pub handover_fields : (core : CoreState) (name : List ℕ) (found : ImageAnswer) → IsImageName name → IfOk found AreBytes → SoundRegions core.regions → IsFieldCore core → HoldsOut IsFieldStart IsFieldStartFault (handover_of core name found)
-unfolding handover_of
-handover_fields core name found called are sound is =
-    let after = handover_life (line_of core.life.state).handover core.life is.life in
-    handover_at (life_after_handover core.life).life (life_after_handover core.life).answer core name found after.life (λ done. handed_off core.life.state core.life done) called are sound is
+  handover_holds : {out : CoreOutcome Start StartFault} → HandoverOutcome core name found out → HoldsOut IsFieldStart IsFieldStartFault out
+  handover_holds (NoHandover why) = record { core = is; answer = tt }
+  handover_holds (NoImageGiven why refuses) = record { core = is; answer = there IsFieldStartFault refuses (image_fields core found are) }
+  handover_holds (HandsOver done answer clear) = record {
+    core = record {
+      book = is.book;
+      life = (handover_life (line_of core.life.state).handover core.life is.life).life;
+      image = called;
+      loaded = load_fields core found are;
+      placed = load_placed core found sound clear;
+      rest = λ off. absurd (handed_off core.life.state core.life done answer off);
+      bench = is.bench;
+      calls = is.calls;
+    };
+    answer = tt;
+  }
+
+  pub handover_fields : HoldsOut IsFieldStart IsFieldStartFault (handover_of core name found)
+  handover_fields = handover_holds (handover_outcome core name found)
 
 -- ---- recoveries
 
@@ -386,29 +383,32 @@ reload_fields core found are =
 readied_fields : (core : CoreState) → IsFieldCore core → IsFieldCore (core_to_reopen core)
 readied_fields core is = record { book = is.book; life = is.life; image = is.image; loaded = is.loaded; placed = is.placed; rest = is.rest; bench = map_has IsFieldBench core.bench bench_to_reopen ready_fields is.bench; calls = is.calls }
 
-pub recovery_fields : (core : CoreState) (found : ImageAnswer) → IfOk found AreBytes → SoundRegions core.regions → IsReachedCore core → IsFieldCore core → HoldsOut IsFieldStart IsFieldStartFault (recovery_of core found)
-unfolding recovery_of
-recovery_fields core found are sound reached is =
-    let after = recovery_life (recovery_state core.life) core.life is.life in
-    let few = after.life.incarnation in
-    refused IsFieldStart IsFieldStartFault core (option_map start_fault.Life (recovery_fault core.life)) _ is (life_fault_fields (recovery_fault core.life)) (λ _.
-    refused IsFieldStart IsFieldStartFault core (reload_fault core found) _ is (reload_fields core found are) (λ reloads.
-    let clear = first_none (image_fault core found) (rings_fault core (load_in core found)) reloads in
-    refused IsFieldStart IsFieldStartFault (core_to_reopen core) (reopen_fault core) _ (readied_fields core is) (with_fields core.bench (result_err (life_after_recovery core.life).answer) reached.bench is.bench) (λ opens.
-    record {
-      core = record {
-        book = is.book;
-        life = after.life;
-        image = is.image;
-        loaded = load_fields core found are;
-        placed = load_placed core found sound clear;
-        rest = λ off. absurd (true≢false (sym off ∙ ap (λ (life : CoreLife). is_offline life.state) (restarts core opens)));
-        bench = found_reopened IsFieldBench core.bench (λ bench clear here. reopen_fields (bench_to_reopen bench) clear (ready_fields bench here))
-            (reopens core.bench (result_err (life_after_recovery core.life).answer) opens) is.bench;
-        calls = no_calls core _;
-      };
-      answer = omega (arith, few);
-    })))
+module _ (core : CoreState) (found : ImageAnswer) (are : IfOk found AreBytes) (sound : SoundRegions core.regions) (reached : IsReachedCore core) (is : IsFieldCore core) where
+  recovery_holds : {out : CoreOutcome Start StartFault} → RecoveryOutcome core found out → HoldsOut IsFieldStart IsFieldStartFault out
+  recovery_holds (NoRecovery why refuses) = record { core = is; answer = tt }
+  recovery_holds (NoReload why may refuses) = record { core = is; answer = there IsFieldStartFault refuses (reload_fields core found are) }
+  recovery_holds (NoReopening why may loads refuses) =
+      record { core = readied_fields core is; answer = there IsFieldStartFault refuses (with_fields core.bench (result_err (life_after_recovery core.life).answer) reached.bench is.bench) }
+  recovery_holds (Restarts may loads opens) =
+      let after = (recovery_life (recovery_state core.life) core.life is.life).life in
+      let few = after.incarnation in
+      record {
+        core = record {
+          book = is.book;
+          life = after;
+          image = is.image;
+          loaded = load_fields core found are;
+          placed = load_placed core found sound (first_none (image_fault core found) (rings_fault core (load_in core found)) loads);
+          rest = λ off. absurd (true≢false (sym off ∙ ap (λ (life : CoreLife). is_offline life.state) (restarts core opens)));
+          bench = found_reopened IsFieldBench core.bench (λ bench clear here. reopen_fields (bench_to_reopen bench) clear (ready_fields bench here))
+              (reopens core.bench (result_err (life_after_recovery core.life).answer) opens) is.bench;
+          calls = no_calls core _;
+        };
+        answer = omega (arith, few);
+      }
+
+  pub recovery_fields : HoldsOut IsFieldStart IsFieldStartFault (recovery_of core found)
+  recovery_fields = recovery_holds (recovery_outcome core found)
 
 -- ---- leaves
 
@@ -427,46 +427,42 @@ out_at : (found : Option BenchState) → IfSome (option_and_then caller_out foun
 out_at None = tt
 out_at (Some bench) = out_small bench
 
-out_fields : (found : Option ℕ) → IfSome found IsNumber → IfSome (option_map leave_fault.CallerOut found) IsFieldLeaveFault
-out_fields None is = tt
-out_fields (Some caller) is = is
-
 live_small : (found : Option BenchState) → IfSome found IsFieldBench → IfSome (live_inc found) IsNumber
 live_small None is = tt
 live_small (Some bench) is =
     let inc = is.link.inc in
     cond_both (link_in bench).era.is_live (Some (link_in bench).era.inc) None (λ (found : Option ℕ). IfSome found IsNumber) (λ _. omega (arith, inc)) (λ _. tt)
 
-closed_at : (may_step : Bool) (core gone : CoreState) (live : Option ℕ) → IfSome live IsNumber → IsFieldCore core → IsFieldCore gone → HoldsOut IsFieldLeave IsFieldLeaveFault (close_or may_step core gone live)
-closed_at may_step core gone None small is last = record { core = last; answer = tt }
-closed_at may_step core gone (Some inc) small is last =
-    cond_both may_step _ _ (HoldsOut IsFieldLeave IsFieldLeaveFault) (λ _. record { core = last; answer = small }) (λ _. record { core = is; answer = tt })
+module _ (may_step : Bool) (core : CoreState) (is : IsFieldCore core) where
+  leave_holds : (why : LifeFault) (to : Option LifeState) (gone : CoreState) {out : CoreOutcome Leave LeaveFault} → LeaveOutcome may_step core gone (leave_to why to core.life) out → IsFieldCore gone → HoldsOut IsFieldLeave IsFieldLeaveFault out
+  leave_holds why to gone (NoLeave fault) last = record { core = is; answer = tt }
+  leave_holds why to gone (OneFewer users answer) last =
+      let after = leave_to_life why to core.life is.life in
+      record {
+        core = record { book = is.book; life = after.life; image = is.image; loaded = is.loaded; placed = is.placed; rest = λ off. is.rest (users_off why to core.life users answer off); bench = is.bench; calls = is.calls };
+        answer = answered IsFieldLeft answer after.answer;
+      }
+  leave_holds why to gone (IsOut caller out) last = record { core = is; answer = there IsNumber out (out_at core.bench) }
+  leave_holds why to gone (NoStep none) last = record { core = is; answer = tt }
+  leave_holds why to gone (Empties all live was) last = record { core = last; answer = subst (λ (closed : Option ℕ). IfSome closed IsNumber) was (live_small core.bench is.bench) }
 
-leave_at : (may_step : Bool) (core gone : CoreState) (life : CoreLife) (answer : Result Left LifeFault) → IsFieldLife life → IfOk answer IsFieldLeft
-    → ((users : ℕ) → answer ≡ Ok (left.Users users) → is_offline life.state ≡ true → is_offline core.life.state ≡ true) → IsFieldCore core → IsFieldCore gone
-    → HoldsOut IsFieldLeave IsFieldLeaveFault (leave_as may_step core gone life answer)
-leave_at may_step core gone life (Err why) living told off is last = record { core = is; answer = tt }
-leave_at may_step core gone life (Ok (left.Users users)) living told off is last =
-    record { core = record { book = is.book; life = living; image = is.image; loaded = is.loaded; placed = is.placed; rest = λ there. is.rest (off users refl there); bench = is.bench; calls = is.calls }; answer = told }
-leave_at may_step core gone life (Ok left.Last) living told off is last =
-    refused IsFieldLeave IsFieldLeaveFault core (option_map leave_fault.CallerOut (option_and_then caller_out core.bench)) _ is (out_fields (option_and_then caller_out core.bench) (out_at core.bench))
-    (λ _. closed_at may_step core gone (live_inc core.bench) (live_small core.bench is.bench) is last)
+  pub shutdown_fields : HoldsOut IsFieldLeave IsFieldLeaveFault (shutdown_of may_step core)
+  shutdown_fields =
+      leave_holds life_fault.NotPowered (line_of core.life.state).shutdown _ (shutdown_outcome may_step core)
+      (record { book = is.book; life = (leave_to_life life_fault.NotPowered (line_of core.life.state).shutdown core.life is.life).life; image = tt; loaded = tt; placed = tt; rest = λ _. refl; bench = tt; calls = is.calls })
 
-pub shutdown_fields : (may_step : Bool) (core : CoreState) → IsFieldCore core → HoldsOut IsFieldLeave IsFieldLeaveFault (shutdown_of may_step core)
-unfolding shutdown_of
-shutdown_fields may_step core is =
-    let after = leave_to_life life_fault.NotPowered (line_of core.life.state).shutdown core.life is.life in
-    leave_at may_step core (unloaded_core (life_after_shutdown core.life).life core) (life_after_shutdown core.life).life (life_after_shutdown core.life).answer after.life after.answer
-    (λ users. users_off life_fault.NotPowered (line_of core.life.state).shutdown core.life users) is
-    (record { book = is.book; life = after.life; image = tt; loaded = tt; placed = tt; rest = λ _. refl; bench = tt; calls = is.calls })
-
-pub detach_fields : (may_step : Bool) (core : CoreState) → IsFieldCore core → HoldsOut IsFieldLeave IsFieldLeaveFault (detach_of may_step core)
-unfolding detach_of
-detach_fields may_step core is =
-    let after = leave_to_life life_fault.NotAttached (line_of core.life.state).detach core.life is.life in
-    leave_at may_step core (detached_core (life_after_detach core.life).life core) (life_after_detach core.life).life (life_after_detach core.life).answer after.life after.answer
-    (λ users. users_off life_fault.NotAttached (line_of core.life.state).detach core.life users) is
-    (record { book = is.book; life = after.life; image = is.image; loaded = is.loaded; placed = is.placed; rest = λ off. is.rest (detach_off core.life.state core.life off); bench = tt; calls = is.calls })
+  pub detach_fields : HoldsOut IsFieldLeave IsFieldLeaveFault (detach_of may_step core)
+  detach_fields =
+      leave_holds life_fault.NotAttached (line_of core.life.state).detach _ (detach_outcome may_step core) (record {
+        book = is.book;
+        life = (leave_to_life life_fault.NotAttached (line_of core.life.state).detach core.life is.life).life;
+        image = is.image;
+        loaded = is.loaded;
+        placed = is.placed;
+        rest = λ off. is.rest (detach_off core.life.state core.life off);
+        bench = tt;
+        calls = is.calls;
+      })
 
 -- ---- crashes
 
@@ -480,33 +476,27 @@ pub record HoldsReport (out : CoreOutcome Crash LifeFault) : Type 0 where
   pub core : IsFieldCore out.core
   pub answer : IfOk out.answer IsFieldCrash
 
-module _ (core : CoreState) (is : IsFieldCore core) (life : CoreLife) (living : IsFieldLife life) (off : is_offline life.state ≡ true → is_offline core.life.state ≡ true) where
-  crashed_fields : IsFieldCore (crashed_core life core)
-  crashed_fields = record {
-    book = is.book;
-    life = living;
-    image = is.image;
-    loaded = is.loaded;
-    placed = is.placed;
-    rest = λ there. is.rest (off there);
-    bench = map_has IsFieldBench core.bench crashed_bench crash_fields is.bench;
-    calls = is.calls;
+module _ (may_step : Bool) (core : CoreState) (is : IsFieldCore core) where
+  report_holds : {out : CoreOutcome Crash LifeFault} → ReportOutcome may_step core out → HoldsReport out
+  report_holds (NoReport why) = record { core = is; answer = tt }
+  report_holds IsDown = record { core = is; answer = tt }
+  report_holds (NoStepLeft none) = record { core = is; answer = tt }
+  report_holds (GoesDown first closed was) = record {
+    core = record {
+      book = is.book;
+      life = (crash_life (line_of core.life.state).crash core.life is.life).life;
+      image = is.image;
+      loaded = is.loaded;
+      placed = is.placed;
+      rest = λ off. is.rest (crash_off (line_of core.life.state).crash core.life off);
+      bench = map_has IsFieldBench core.bench crashed_bench crash_fields is.bench;
+      calls = is.calls;
+    };
+    answer = subst (λ (inc : Option ℕ). IfSome inc IsNumber) was (closed_field core.bench is.bench);
   }
 
-  first_crash : (may_step : Bool) (found : Option BenchState) → IfSome found IsFieldBench → HoldsReport (first_report may_step life core found)
-  first_crash may_step None here = record { core = crashed_fields; answer = tt }
-  first_crash may_step (Some bench) here =
-      cond_both may_step _ _ HoldsReport (λ _. record { core = crashed_fields; answer = closed_field (Some bench) here }) (λ _. record { core = is; answer = tt })
-
-  report_at : (may_step : Bool) (answer : Result Report LifeFault) → HoldsReport (report_as may_step life answer core)
-  report_at may_step (Err why) = record { core = is; answer = tt }
-  report_at may_step (Ok report.First) = first_crash may_step core.bench is.bench
-  report_at may_step (Ok report.Already) = record { core = is; answer = tt }
-
-pub report_fields : (may_step : Bool) (core : CoreState) → IsFieldCore core → HoldsReport (report_of may_step core)
-unfolding report_of
-report_fields may_step core is =
-    report_at core is (life_after_crash core.life).life (crash_life (line_of core.life.state).crash core.life is.life).life (crash_off (line_of core.life.state).crash core.life) may_step (life_after_crash core.life).answer
+  pub report_fields : HoldsReport (report_of may_step core)
+  report_fields = report_holds (report_outcome may_step core)
 
 -- ---- a core that was never booted
 

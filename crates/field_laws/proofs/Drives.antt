@@ -10,12 +10,12 @@ use Rattle.link_bench.specs.declared.acts.LinkAct.{LinkAct}
 use Rattle.link_bench.specs.declared.benches.Reach.{Reach}
 use Rattle.link_bench.specs.declared.benches.Reach.TheVariants as reach
 use Rattle.link_bench.specs.ActParts.{ActPart, Sees, watcher_after_part}
-use Rattle.link_bench.specs.Acts.{Acted, IsFitAct}
+use Rattle.link_bench.specs.Acts.{ActResult, IsFitAct}
 use Rattle.link_bench.specs.Benches.{BenchState, IsSendable, advance_walk, is_in_call, link_in, start_walk}
 use Rattle.link_bench.proofs.ActParts.{KeptByParts}
 use Rattle.link_bench.proofs.ActWalks.{act_kept}
-use Rattle.core_actors.specs.declared.progress.Driven.{Driven}
-use Rattle.core_actors.specs.declared.progress.Driven.TheVariants as driven
+use Rattle.core_actors.specs.declared.progress.DriveOutcome.{DriveOutcome}
+use Rattle.core_actors.specs.declared.progress.DriveOutcome.TheVariants as driven
 use Rattle.core_actors.specs.Actors.{ActorsState}
 use Rattle.core_actors.specs.ActorEnds.{actors_after_end}
 use Rattle.core_actors.specs.ActorSteps.{drive_of_reach, drive_of_work, first_or_take, host_at_step, link_step}
@@ -27,7 +27,7 @@ use Rattle.core_laws.specs.DriveParts.{MayDrive}
 use Rattle.core_laws.proofs.CoreMoves.{StandsReady, first_sendable, link_reached, turned_stands}
 use Rattle.core_laws.proofs.DriveWalks.{HoldOfSteps, MayGoOn, may_host, may_worker, of_link, reported, step_walk}
 use Rattle.field_laws.specs.Fields.{IsFieldWish}
-use Rattle.field_laws.specs.FieldBenches.{IsFieldAct, IsFieldActed, IsFieldBench, IsFieldReach}
+use Rattle.field_laws.specs.FieldBenches.{IsFieldAct, IsFieldActResult, IsFieldBench, IsFieldReach}
 use Rattle.field_laws.specs.FieldCores.{AreFieldCalls, IsFieldCore, IsFieldDriven, IsFieldLoad, IsFieldPlaced}
 use Rattle.core_laws.proofs.ActorCalls.{first_fits, host_begun_fit, host_step_fit, ran_fit, seen_fit, worker_step_fit}
 use Rattle.field_laws.proofs.Actors.{field_calls, field_end, field_messages, memory_fields, work_fields}
@@ -121,7 +121,7 @@ run_fields core load same is here placed =
     }
 
 -- what a report closed is a number of the line
-closed_fields : (event : Driven) (core : CoreState) → IsFieldCore core → IsFieldDriven event → IsFieldDriven (driven_with_report event core)
+closed_fields : (event : DriveOutcome) (core : CoreState) → IsFieldCore core → IsFieldDriven event → IsFieldDriven (driven_with_report event core)
 closed_fields driven.Idle core is told = told
 closed_fields driven.Stepped core is told = told
 closed_fields (driven.Ended caller ended) core is told = told
@@ -173,10 +173,10 @@ both_part : KeptByParts actors_after_end 2 IsFit HoldsBoth
 both_part bench actors part may is = record { holds = part_holds actors_after_end 2 bench actors part may is.holds; calls = part_calls bench actors part is.holds is.calls }
 
 -- what an act leaves of a core, the link that it leaves, and what comes of it
-pub record HoldsActed (core : CoreState) (acted : Acted ActorsState) : Type 0 where
+pub record HoldsActed (core : CoreState) (acted : ActResult ActorsState) : Type 0 where
   pub left : IsFieldCore (core_after_act core acted)
   pub bench : IsFieldBench acted.bench
-  pub answer : IsFieldActed acted.answer
+  pub answer : IsFieldActResult acted.answer
 
 pub core_act_fields : (core : CoreState) (bench : BenchState) (steps : ℕ) (asked : LinkAct (List ℕ)) → IsFitAct asked → IsFieldAct asked → IsReachedBench bench → IsFieldBench bench → IsFieldCore core
     → HoldsActed core (act_on_core core bench steps asked)

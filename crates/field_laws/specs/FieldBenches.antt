@@ -48,16 +48,16 @@ IsFieldReclaim (reclaim.StillOpen era) = era.inc < 2 ^ 32
 IsFieldReclaim (reclaim.Busy holder) = holder < 2 ^ 64
 
 -- what comes of an act
-abbrev pub IsFieldActed : ActAnswer → Type 0
-IsFieldActed (answer.Caller number end) = number < 2 ^ 64
-IsFieldActed answer.CallersFull = Unit {0}
-IsFieldActed (answer.Refused caller why) = (caller < 2 ^ 64) × IsFieldBenchFault why
-IsFieldActed (answer.TooLong caller len) = (caller < 2 ^ 64) × (len < 2 ^ 64)
-IsFieldActed (answer.WrongSide receiver) = receiver < 2 ^ 64
-IsFieldActed (answer.Begun caller) = caller < 2 ^ 64
-IsFieldActed (answer.Reached caller came) = (caller < 2 ^ 64) × IsFieldReach came
-IsFieldActed (answer.Pumped done ended) = (done < 2 ^ 64) × IsFieldTurnEnd ended
-IsFieldActed (answer.Reclaimed caller came) = (caller < 2 ^ 64) × IsFieldReclaim came
+abbrev pub IsFieldActResult : ActAnswer → Type 0
+IsFieldActResult (answer.Caller number end) = number < 2 ^ 64
+IsFieldActResult answer.CallersFull = Unit {0}
+IsFieldActResult (answer.Refused caller why) = (caller < 2 ^ 64) × IsFieldBenchFault why
+IsFieldActResult (answer.TooLong caller len) = (caller < 2 ^ 64) × (len < 2 ^ 64)
+IsFieldActResult (answer.WrongSide receiver) = receiver < 2 ^ 64
+IsFieldActResult (answer.Begun caller) = caller < 2 ^ 64
+IsFieldActResult (answer.Reached caller came) = (caller < 2 ^ 64) × IsFieldReach came
+IsFieldActResult (answer.Pumped done ended) = (done < 2 ^ 64) × IsFieldTurnEnd ended
+IsFieldActResult (answer.Reclaimed caller came) = (caller < 2 ^ 64) × IsFieldReclaim came
 
 -- what a call of an act wishes
 abbrev pub IsFieldCall : CallWish (List ℕ) → Type 0

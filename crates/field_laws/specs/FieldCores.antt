@@ -9,8 +9,8 @@ use Rattle.fw_load.specs.declared.faults.LoadFault.{LoadFault}
 use Rattle.fw_load.specs.Faults.{load_fault_index}
 use Rattle.lane_model.specs.declared.recoveries.ReopenFault.{ReopenFault}
 use Rattle.lane_model.specs.declared.recoveries.ReopenFault.TheVariants as reopen
-use Rattle.core_actors.specs.declared.progress.Driven.{Driven}
-use Rattle.core_actors.specs.declared.progress.Driven.TheVariants as driven
+use Rattle.core_actors.specs.declared.progress.DriveOutcome.{DriveOutcome}
+use Rattle.core_actors.specs.declared.progress.DriveOutcome.TheVariants as driven
 use Rattle.core_actors.specs.Actors.{ActorsState}
 use Rattle.crash_recover.specs.declared.core_answers.Crash.{Crash}
 use Rattle.crash_recover.specs.declared.core_answers.Crash.TheVariants as crash
@@ -61,7 +61,7 @@ pub record IsFieldCore (core : CoreState) : Type 0 where
   pub calls : AreFieldCalls core.actors
 
 -- what a step of the actors was
-abbrev pub IsFieldDriven : Driven → Type 0
+abbrev pub IsFieldDriven : DriveOutcome → Type 0
 IsFieldDriven driven.Idle = Unit {0}
 IsFieldDriven driven.Stepped = Unit {0}
 IsFieldDriven (driven.Ended caller ended) = (caller < 2 ^ 64) × IsFieldEnd ended

@@ -1,6 +1,6 @@
-pub mod Spelled
+pub mod SpelledLines
 pub mod SaidScripts
-pub mod Known
+pub mod KnownWords
 pub mod RingLengths
 pub mod SpelledCalls
 pub mod SpelledCores

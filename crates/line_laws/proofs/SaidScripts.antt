@@ -42,7 +42,7 @@ use Rattle.field_laws.specs.Fields.{AreBytes}
 use Rattle.field_laws.proofs.Bytes.{more_bytes, no_bytes}
 use Rattle.field_laws.proofs.Images.{IsBytesLine}
 use Rattle.field_laws.proofs.Sides.{find_has}
-use Rattle.line_laws.proofs.Spelled.{IsName}
+use Rattle.line_laws.proofs.SpelledLines.{IsName}
 
 -- ---- what is known of what a command is about
 

@@ -61,7 +61,7 @@ use Rattle.link_commands.specs.NamedLinks.{NamedLink}
 use Rattle.link_commands.specs.Recoveries.{close_effect, close_event, opened_effect, reopen_effect, reopen_events}
 use Rattle.link_commands.specs.RingDumps.{bench_ring_events, dump_rows, ring_events, row_count, row_events, ring_events_unless}
 use Rattle.field_laws.specs.Fields.{AreBytes, IsFieldChannel, IsFieldEnd, IsFieldFault, IsFieldLane, IsFieldLink, IsFieldVerdict}
-use Rattle.field_laws.specs.FieldBenches.{IsFieldActed, IsFieldBench, IsFieldBenchFault, IsFieldReach, IsFieldReclaim, IsFieldTurnEnd}
+use Rattle.field_laws.specs.FieldBenches.{IsFieldActResult, IsFieldBench, IsFieldBenchFault, IsFieldReach, IsFieldReclaim, IsFieldTurnEnd}
 use Rattle.field_laws.specs.FieldCores.{IsFieldReopen}
 use Rattle.field_laws.proofs.Actors.{taken_bytes_on}
 use Rattle.field_laws.proofs.Acts.{HoldsBench, act_holds, act_told}
@@ -71,9 +71,9 @@ use Rattle.field_laws.proofs.Cores.{link_refusal_fields}
 use Rattle.field_laws.proofs.Lanes.{counts_small}
 use Rattle.field_laws.proofs.Rings.{ring_are}
 use Rattle.field_laws.proofs.Steps.{holder_small}
-use Rattle.line_laws.proofs.Known.{IsKnownAct}
+use Rattle.line_laws.proofs.KnownWords.{IsKnownAct}
 use Rattle.line_laws.proofs.RingLengths.{bytes_few}
-use Rattle.line_laws.proofs.Spelled.{IsName, IsSpelled, none, one, two}
+use Rattle.line_laws.proofs.SpelledLines.{IsName, IsSpelled, none, one, two}
 
 -- a payload is shorter than its message
 payload_short : (message : List ℕ) → length message ≤ 512 → length (payload_of message) ≤ 512
@@ -158,7 +158,7 @@ module _ (name : List ℕ) (named : IsName name) where
   reclaim_spelled caller (reclaim.StillOpen era) small is = ((named, (omega (arith, is), tt)), tt)
   reclaim_spelled caller (reclaim.Busy held) small is = ((named, (is, tt)), tt)
 
-  pub answer_spelled : (link : LinkState EndState) (came : ActAnswer) → IsShortLink link → IsFieldLink link → IsFieldActed came → All IsSpelled (answer_events name link came)
+  pub answer_spelled : (link : LinkState EndState) (came : ActAnswer) → IsShortLink link → IsFieldLink link → IsFieldActResult came → All IsSpelled (answer_events name link came)
   answer_spelled link (answer.Caller number at) short fields is = one (event.Caller name number at) (((named, (is, (tt, tt))), tt))
   answer_spelled link answer.CallersFull short fields is = one (event.CallersFull name) (((named, tt), tt))
   answer_spelled link (answer.Refused caller why) short fields is = one (fault_event name caller why) (fault_spelled caller why is.0 is.1)

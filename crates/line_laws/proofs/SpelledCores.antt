@@ -57,8 +57,8 @@ use Rattle.link_bench.specs.declared.acts.LinkAct.{LinkAct}
 use Rattle.link_bench.specs.Acts.{IsFitAct}
 use Rattle.link_bench.specs.Benches.{BenchState, link_in}
 use Rattle.link_bench.specs.BenchRings.{lane_base, lane_words, turn_holder}
-use Rattle.core_actors.specs.declared.progress.Driven.{Driven}
-use Rattle.core_actors.specs.declared.progress.Driven.TheVariants as driven
+use Rattle.core_actors.specs.declared.progress.DriveOutcome.{DriveOutcome}
+use Rattle.core_actors.specs.declared.progress.DriveOutcome.TheVariants as driven
 use Rattle.core_actors.specs.ActorEnds.{actors_after_end}
 use Rattle.crash_recover.specs.declared.core_answers.Crash.{Crash}
 use Rattle.crash_recover.specs.declared.core_answers.Crash.TheVariants as crash
@@ -98,7 +98,7 @@ use Rattle.command_run.specs.CoreDrives.{actor_end_events, drive_effect, driven_
 use Rattle.command_run.specs.CoreEffects.{CoreEffect, core_tells}
 use Rattle.crash_recover.specs.CoreCallers.{core_turn_holder}
 use Rattle.command_run.specs.CoreLinks.{core_link_effect, core_ring_events, found_ring_events, found_view_events, link_view_events, shown_ring_events}
-use Rattle.command_run.specs.CoreLives.{booted_image, crash_events, fault_at, found_image, leave_events, leave_fault_event, life_fault_event, load_fault_event, may_step, report_events, start_event, start_events, start_effect, start_fault_events, start_name, start_with, found_or_told, image_bytes}
+use Rattle.command_run.specs.CoreLives.{booted_image, crash_events, fault_at, found_image, leave_events, leave_fault_event, life_fault_event, load_fault_event, may_step, report_events, start_event, start_events, start_effect, start_fault_events, start_name, start_with, image_or, image_bytes}
 use Rattle.command_run.specs.CoreViews.{core_view_events, loaded_table_events, memory_event, shown_memory_event, shown_trace_event, state_event, table_event, table_events, trace_bytes, trace_event}
 use Rattle.command_run.specs.NamedCores.{NamedCoreState}
 use Rattle.command_run.specs.NamedImages.{ImageState}
@@ -120,10 +120,10 @@ use Rattle.field_laws.proofs.Images.{memory_bytes}
 use Rattle.field_laws.proofs.Rings.{ring_are}
 use Rattle.field_laws.proofs.Sides.{find_has}
 use Rattle.field_laws.proofs.Tables.{entries_few, entries_fields}
-use Rattle.line_laws.proofs.Known.{IsKnownAct}
+use Rattle.line_laws.proofs.KnownWords.{IsKnownAct}
 use Rattle.line_laws.proofs.SaidScripts.{IsSaidStart}
 use Rattle.line_laws.proofs.RingLengths.{pair_few}
-use Rattle.line_laws.proofs.Spelled.{AreSpelled, IsName, IsSpelled, none, one, two}
+use Rattle.line_laws.proofs.SpelledLines.{AreSpelled, IsName, IsSpelled, none, one, two}
 use Rattle.line_laws.proofs.SpelledCalls.{answer_spelled, end_spelled, reopen_told, ring_spelled, turn_small, view_spelled}
 
 -- what is done on a core leaves its numbers and bytes within their types, and tells spelled events
@@ -248,7 +248,7 @@ bytes_found : (found : Option ImageState) → IfSome found (λ (image : ImageSta
 bytes_found None is = tt
 bytes_found (Some image) is = is
 
-or_told : (answer : ImageAnswer) (found : Option (List ℕ)) → IfSome found AreBytes → IfOk answer AreBytes → IfOk (found_or_told answer found) AreBytes
+or_told : (answer : ImageAnswer) (found : Option (List ℕ)) → IfSome found AreBytes → IfOk answer AreBytes → IfOk (image_or answer found) AreBytes
 or_told answer None are told = told
 or_told answer (Some bytes) are told =
     cond_both (nat_le (length bytes) IMAGE_MOST) (Ok bytes) (Err (no_image.TooLarge (length bytes))) (λ (found : ImageAnswer). IfOk found AreBytes) (λ _. are) (λ _. tt)
@@ -492,7 +492,7 @@ module _ (name : List ℕ) (named : IsName name) where
   ended_told caller end (Some bench) small of reached is =
       one (end_event name (link_in bench) caller end) (end_spelled name named (link_in bench) caller end small reached.link.short is.link of)
 
-  driven_told : (is_quiet : Bool) (found : Option BenchState) (what : Driven) → IsFieldDriven what → IfSome found IsReachedBench → IfSome found IsFieldBench
+  driven_told : (is_quiet : Bool) (found : Option BenchState) (what : DriveOutcome) → IsFieldDriven what → IfSome found IsReachedBench → IfSome found IsFieldBench
       → All IsSpelled (driven_events name is_quiet found what)
   driven_told is_quiet found driven.Idle of reached is = none
   driven_told is_quiet found driven.Stepped of reached is = none

@@ -1,9 +1,9 @@
 -- The events of a run are spelled as lines have them, and so each is read back.
-use Rattle.std.proofs.Common.{ℕ, suc, ◌<◌, ◌^◌, Bool, true, false, List, [], ◌∷◌, ◌++◌, length, Option, Some, None, IfSome, Result, Ok, Err, subst, arith}
+use Rattle.std.proofs.Common.{ℕ, ◌<◌, ◌^◌, Bool, true, false, List, [], ◌∷◌, ◌++◌, length, Option, Some, None, IfSome, Result, Ok, Err, subst, arith}
 use Rattle.std.specs.Prelude.{All, nat_le, nat_lt}
 use Rattle.std.specs.Result.{IfOk}
 use Rattle.std.proofs.lemmas.Bool.{cond_both}
-use Rattle.std.proofs.lemmas.List.Elements.{All-append, All-nil, All-push, All-set, All-weaker}
+use Rattle.std.proofs.lemmas.List.Elements.{All-nil, All-push, All-set, All-weaker}
 use Rattle.rp_io.specs.Images.{ImageAnswer}
 use Rattle.rp_base.specs.declared.limits.TheConstants.{IMAGE_MOST}
 use Rattle.rp_base.specs.declared.kinds.End.TheVariants as side
@@ -11,8 +11,6 @@ use Rattle.memory_pool.specs.Soundness.{SoundRegions}
 use Rattle.script_lang.specs.declared.commands.Command.{Command}
 use Rattle.script_lang.specs.declared.recipes.RecipeLine.{RecipeLine}
 use Rattle.script_lang.specs.Grammar.{IsScript}
-use Rattle.script_lang.specs.Runnable.{AreRunnable, IsRunnable}
-use Rattle.script_lang.proofs.Runnable.{are_runnable}
 use Rattle.journal.specs.declared.events.Event.{Event}
 use Rattle.journal.specs.declared.events.Event.TheVariants as event
 use Rattle.journal.specs.Reading.{IsWritten}
@@ -27,17 +25,16 @@ use Rattle.link_commands.specs.declared.acts.Line.{Line}
 use Rattle.link_commands.specs.declared.acts.NamedAct.{NamedAct}
 use Rattle.link_commands.specs.declared.acts.NamedAct.TheVariants as under
 use Rattle.command_run.specs.declared.dumps.TheConstants.{DUMPS_MOST}
-use Rattle.link_commands.specs.declared.stops.Stop.{Stop}
-use Rattle.link_commands.specs.Acts.{line_of}
 use Rattle.command_run.specs.Dumps.{bytes_answer, core_answer, crashed_load, kept_dumps, load_answer}
 use Rattle.command_run.specs.NamedCores.{NamedCoreState}
 use Rattle.command_run.specs.NamedImages.{ImageState}
 use Rattle.link_commands.specs.NamedLinks.{NamedLink}
-use Rattle.command_run.specs.Runs.{ObjectsState, Run, RunEffect, RunState, asked_name, core_named, dump_answer, effect_of, find_core, has_image, new_end, new_run, regions_of, run_from, run_of, run_on, run_tells, run_told}
-use Rattle.command_run.specs.Stores.{Shelf, Told, later_told, told_answer}
+use Rattle.command_run.specs.Runs.{ObjectsState, RunEffect, RunState, asked_name, core_under, dump_answer, find_core, has_image, new_end, new_run, regions_of, run_of, run_tells}
+use Rattle.command_run.specs.Stores.{Shelf, StoreAnswers, store_answer}
 use Rattle.run_laws.proofs.CommandWalks.{ActsOnCore, ActsOnLink, CommandOutcome, FindsImage, HasNoRoom, KeepsDump, MakesCore, MakesImage, MakesLink, NamesNothing, Quiets, RefusesDump, made_link, outcome}
 use Rattle.run_laws.proofs.CoreWalks.{FitsNamed}
 use Rattle.run_laws.proofs.CoresReady.{IsSoundCore}
+use Rattle.run_laws.proofs.RunInductions.{AnswersAre, EachIs, each_parts, events_hold, state_kept}
 use Rattle.run_laws.proofs.RunWalks.{item_at}
 use Rattle.run_laws.proofs.RunsReached.{AreSound, command_sound, none_sound}
 use Rattle.act_laws.specs.Accounts.{Account}
@@ -53,8 +50,8 @@ use Rattle.field_laws.proofs.DumpSizes.{dump_small}
 use Rattle.field_laws.proofs.Images.{dump_are, image_are}
 use Rattle.field_laws.proofs.Sides.{find_has, fresh_fields}
 use Rattle.line_laws.specs.ByteStores.{TellsBytes}
-use Rattle.line_laws.proofs.Known.{AreKnown, IsKnownAct, IsKnownLine, are_known}
-use Rattle.line_laws.proofs.Spelled.{IsName, IsSpelled, none, one, read_back}
+use Rattle.line_laws.proofs.KnownWords.{IsKnown, IsKnownAct, IsKnownLine, are_known}
+use Rattle.line_laws.proofs.SpelledLines.{IsName, IsSpelled, none, one, read_back}
 use Rattle.line_laws.proofs.SpelledCalls.{link_spelled}
 use Rattle.line_laws.proofs.SpelledCores.{AreBytesImages, core_spelled}
 
@@ -111,13 +108,13 @@ module _ (name image : List ℕ) (named : IsName name) (called : IsName image) w
   core_told is_taken kept None is = ((named, tt), tt)
   core_told is_taken kept (Some on) is = load_told is_taken kept on.core (crashed_load on.core.life.state on.core.loaded) is.core is.rungs.load.regions
 
-  named_core : (run : RunState) → AreFieldObjects run.objects → IfSome (core_named run.objects name) IsFieldNamedCore
+  named_core : (run : RunState) → AreFieldObjects run.objects → IfSome (core_under run.objects name) IsFieldNamedCore
   named_core run are =
       cond_both _ None (find_core run.objects.cores name) (λ (found : Option NamedCoreState). IfSome found IsFieldNamedCore) (λ _. tt)
       (λ _. find_has IsFieldNamedCore _ run.objects.cores are.cores)
 
   dump_told : (run : RunState) → AreFieldObjects run.objects → IsSpelledAnswer (dump_answer run.objects name image)
-  dump_told run are = core_told (has_image run.objects.images image) (kept_dumps run.objects.images) (core_named run.objects name) (named_core run are)
+  dump_told run are = core_told (has_image run.objects.images image) (kept_dumps run.objects.images) (core_under run.objects name) (named_core run are)
 
 -- ---- commands
 
@@ -201,36 +198,43 @@ module _ (answer : ImageAnswer) (told_are : IfOk answer AreBytes) (run : RunStat
 
 -- ---- runs
 
-answer_are : (shelf : Option Shelf) (asked : Option (List ℕ)) → IfSome shelf (λ (shelf : Shelf). (name : List ℕ) → IfOk (shelf name) AreBytes) → IfSome (told_answer shelf asked) (λ (answer : ImageAnswer). IfOk answer AreBytes)
+answer_are : (shelf : Option Shelf) (asked : Option (List ℕ)) → IfSome shelf (λ (shelf : Shelf). (name : List ℕ) → IfOk (shelf name) AreBytes) → IfSome (store_answer shelf asked) (λ (answer : ImageAnswer). IfOk answer AreBytes)
 answer_are None None are = tt
 answer_are None (Some name) are = tt
 answer_are (Some shelf) None are = tt
 answer_are (Some shelf) (Some name) are = are name
 
-on_spelled : (effect : RunEffect) (ending : Option Stop) (later : Run) → All IsSpelled effect.events → All IsSpelled later.events → All IsSpelled (run_on effect ending later).events
-on_spelled effect None later first rest = All-append IsSpelled effect.events later.events first rest
-on_spelled effect (Some why) later first rest = first
+-- all that a run made is spelled so, and came about
+record Stands (run : RunState) : Type 0 where
+  pub fields : AreFieldObjects run.objects
+  pub sound : AreSound run.objects
 
-told_spelled : (run : RunState) (wanted : Command) (answer : Option ImageAnswer) (later : RunState → Run) → IfSome answer (λ (answer : ImageAnswer). IfOk answer AreBytes) → IsKnownLine (line_of wanted) → IsRunnable wanted
-    → AreFieldObjects run.objects → AreSound run.objects → ((next : RunState) → AreFieldObjects next.objects → AreSound next.objects → All IsSpelled (later next).events)
-    → All IsSpelled (run_told run wanted answer later).events
-told_spelled run wanted None later told_are knows runs are sound rest = none
-told_spelled run wanted (Some answer) later told_are knows runs are sound rest =
-    let effect = effect_of answer run wanted in
-    let did = outcome_spelled answer told_are run are sound (outcome answer run wanted) knows in
-    on_spelled effect effect.ending (later effect.run) did.events (rest effect.run did.left (command_sound answer run wanted runs sound))
+module _ (told : StoreAnswers) (tells : TellsBytes told) where
+  answers_are : AnswersAre (λ answer. IfOk answer AreBytes) told
+  answers_are number asked = answer_are (told number) asked (tells number)
 
-run_spelled : (told : Told) (run : RunState) (commands : List Command) → TellsBytes told → AreKnown commands → AreRunnable commands → AreFieldObjects run.objects → AreSound run.objects
-    → All IsSpelled (run_from told run commands).events
-unfolding run_from
-run_spelled told run [] tells know runs are sound = none
-run_spelled told run (first ∷ more) tells know runs are sound =
-    told_spelled run first (told_answer (told 0) (asked_name run.objects first)) (λ next. run_from (later_told told) next more) (answer_are (told 0) (asked_name run.objects first) (tells 0)) know.0 runs.0 are sound
-    (λ next left came. run_spelled (later_told told) next more (λ number. tells (suc number)) know.1 runs.1 left came)
+  stand : (commands : List Command) → EachIs IsKnown commands → Stands (run_of told commands).last
+  stand commands know =
+      state_kept IsKnown (λ answer. IfOk answer AreBytes) Stands
+      (λ answer run asked told_are knows is. record {
+        fields = (outcome_spelled answer told_are run is.fields is.sound (outcome answer run asked) knows.0).left;
+        sound = command_sound answer run asked knows.1 is.sound;
+      })
+      told new_run commands answers_are know (record {
+        fields = record { links = All-nil IsFieldNamedLink; cores = All-nil IsFieldNamedCore; images = All-nil (λ (image : ImageState). AreBytes image.bytes) };
+        sound = none_sound;
+      })
 
-pub lines_back : (told : Told) (commands : List Command) → TellsBytes told → IsScript commands → All IsWritten (run_of told commands).events
+  run_spelled : (commands : List Command) → EachIs IsKnown commands → All IsSpelled (run_of told commands).events
+  run_spelled commands know =
+      events_hold IsSpelled told new_run commands
+      (λ done next more answer parts is.
+      let knows = each_parts IsKnown done next more (subst (EachIs IsKnown) parts know) in
+      let run = (run_of told done).last in
+      let stands = stand done knows.0 in
+      let told_are = subst (λ (given : Option ImageAnswer). IfSome given (λ (answer : ImageAnswer). IfOk answer AreBytes)) is (answers_are (length done) (asked_name run.objects next)) in
+      (outcome_spelled answer told_are run stands.fields stands.sound (outcome answer run next) knows.1.0).events)
+
+pub lines_back : (told : StoreAnswers) (commands : List Command) → TellsBytes told → IsScript commands → All IsWritten (run_of told commands).events
 lines_back told commands tells script =
-    All-weaker IsSpelled IsWritten read_back (run_of told commands).events
-    (run_spelled told new_run commands tells (are_known commands script) (are_runnable commands script)
-    (record { links = All-nil IsFieldNamedLink; cores = All-nil IsFieldNamedCore; images = All-nil (λ (image : ImageState). AreBytes image.bytes) })
-    none_sound)
+    All-weaker IsSpelled IsWritten read_back (run_of told commands).events (run_spelled told tells commands (are_known commands script))

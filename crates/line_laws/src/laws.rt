@@ -7,17 +7,17 @@ ghost use Rattle.journal.specs.declared.events.Event.{Event};
 ghost use Rattle.journal.specs.Lines.{line, transcript};
 ghost use Rattle.journal.specs.Reading.{IsWritten};
 ghost use Rattle.journal_check.specs.Lines.{lines_of};
-ghost use Rattle.command_run.specs.Stores.{Told};
+ghost use Rattle.command_run.specs.Stores.{StoreAnswers};
 ghost use Rattle.command_run.specs.Runs.{run_of};
 ghost use Rattle.line_laws.specs.ByteStores.{TellsBytes};
 
 /// Each event of the run of a script, over a store whose images are bytes, is one that `read_line` reads back from its line,
 /// and no other such event has that line. The lines of the run's transcript are those of its events, in order.
 pub fn lines_read_back()
-    ensures written { (told : Told) (commands : List Command) → TellsBytes told → IsScript commands
+    ensures written { (told : StoreAnswers) (commands : List Command) → TellsBytes told → IsScript commands
         → All IsWritten (run_of told commands).events }
-    ensures alone { (told : Told) (commands : List Command) → TellsBytes told → IsScript commands
+    ensures alone { (told : StoreAnswers) (commands : List Command) → TellsBytes told → IsScript commands
         → All (λ event. (other : Event) → IsWritten other → line other ≡ line event → other ≡ event) (run_of told commands).events }
-    ensures lines { (told : Told) (commands : List Command) → TellsBytes told → IsScript commands
+    ensures lines { (told : StoreAnswers) (commands : List Command) → TellsBytes told → IsScript commands
         → lines_of (transcript (run_of told commands).events) ≡ map line (run_of told commands).events }
 {}

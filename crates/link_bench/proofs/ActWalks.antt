@@ -23,14 +23,14 @@ use Rattle.link_bench.specs.declared.benches.Reach.{Reach}
 use Rattle.link_bench.specs.declared.benches.Reach.TheVariants as reach
 use Rattle.link_bench.specs.declared.turns.TurnEnd.{TurnEnd}
 use Rattle.link_bench.specs.ActParts.{ActPart, Advances, Calls, Joins, Sees, act_parts, free_parts, made_parts, one_parts, parts_behind, parts_unless, pump_parts, take_parts, turn_parts}
-use Rattle.link_bench.specs.Acts.{Acted, answer_of_reclaim, call_act, caller_act, first_refusal, free_act, link_act, made_call, misfit, own_caller, own_in, pump_act, pump_refusal, step_act, turns_act, unless_own, unless_refused, walk_act, wish_of}
+use Rattle.link_bench.specs.Acts.{ActResult, answer_of_reclaim, call_act, caller_act, first_refusal, free_act, link_act, made_call, misfit, own_caller, own_in, pump_act, pump_refusal, step_act, turns_act, unless_own, unless_refused, walk_act, wish_of}
 use Rattle.link_bench.specs.BenchCrashes.{reclaim_answer}
 use Rattle.link_bench.specs.Benches.{BenchState, advance_fault, advance_walk, begin_fault, call_walk, is_in_call, link_in, ready_fault, step_fault, used_fault, wish_fault, with_new_caller}
-use Rattle.link_bench.specs.Turns.{Pumped, TurnCall, Turns, call_unless, give_turn, is_whole, one_turn, pump_turns, reach_number, take_turn, then_more, turn_call, turn_end_of, turn_message}
+use Rattle.link_bench.specs.Turns.{PumpResult, TurnCall, Turns, call_unless, give_turn, is_whole, one_turn, pump_turns, reach_number, take_turn, then_more, turn_call, turn_end_of, turn_message}
 use Rattle.link_bench.specs.Watchers.{Seeing, watcher_after}
 use Rattle.link_bench.proofs.ActAnswers.{AreFaultsOf, AreRefusals, Came, CameBy, EndsTurns, HasNumber, IsAnswer, IsCallerOf, IsNamed, OfCall, OfSteps, advance_names, misfit_told, own_is, pump_told, ready_names}
 use Rattle.link_bench.proofs.ActParts.{Does, Done, KeptByParts, MayPart, Then, does_kept, does_then}
-use Rattle.link_bench.proofs.Begun.{held_from, some_fault}
+use Rattle.link_bench.proofs.BegunCalls.{held_from, some_fault}
 
 -- ---- what a refusal that there isn't says
 
@@ -207,7 +207,7 @@ module _ {W : Type 0} (sees : Seeing W) (own : ℕ) (Fits : Wish → Type 0) (st
         (λ _. take_parts receiver sent.bench sent.steps) (λ _. take_turn sees receiver sent.bench watcher sent.steps) left.does left.number
         (λ _ has. take_turned sent.bench watcher sent.steps (behind from left.does))
 
-    record HasPumped (bench : BenchState) (watcher : W) (most : ℕ) (parts : List ActPart) (pumped : Pumped W) : Type 0 where
+    record HasPumped (bench : BenchState) (watcher : W) (most : ℕ) (parts : List ActPart) (pumped : PumpResult W) : Type 0 where
       pub turned : Turned bench watcher parts pumped.turns
       pub done : pumped.done ≤ most
 
@@ -231,16 +231,16 @@ module _ {W : Type 0} (sees : Seeing W) (own : ℕ) (Fits : Wish → Type 0) (st
 
 module _ {W : Type 0} (sees : Seeing W) (own : ℕ) (Fits : Wish → Type 0) (bench : BenchState) (watcher : W) (steps : ℕ) where
   -- parts lead to what an act leaves, and its answer may come of it
-  pub record HasDone (asked : LinkAct (List ℕ)) (parts : List ActPart) (acted : Acted W) : Type 0 where
+  pub record HasDone (asked : LinkAct (List ℕ)) (parts : List ActPart) (acted : ActResult W) : Type 0 where
     pub does : Does sees own Fits bench watcher parts acted.bench acted.watcher
     pub answer : IsAnswer sees own Fits bench watcher asked parts acted.bench acted.answer
 
-  unless_done : (asked : LinkAct (List ℕ)) (told : Option ActAnswer) (parts : List ActPart) (acted : Acted W) → AreRefusals sees own Fits bench watcher asked told
+  unless_done : (asked : LinkAct (List ℕ)) (told : Option ActAnswer) (parts : List ActPart) (acted : ActResult W) → AreRefusals sees own Fits bench watcher asked told
       → (told ≡ None → HasDone asked parts acted) → HasDone asked (parts_unless told parts) (unless_refused bench watcher steps told acted)
   unless_done asked None parts acted is rest = rest refl
   unless_done asked (Some told) parts acted is rest = record { does = Done; answer = is }
 
-  unless_fault : (asked : LinkAct (List ℕ)) (caller : ℕ) (why : Option BenchFault) (parts : List ActPart) (acted : Acted W) → IsCallerOf asked caller → AreFaultsOf (IsNamed asked) why
+  unless_fault : (asked : LinkAct (List ℕ)) (caller : ℕ) (why : Option BenchFault) (parts : List ActPart) (acted : ActResult W) → IsCallerOf asked caller → AreFaultsOf (IsNamed asked) why
       → (why ≡ None → HasDone asked parts acted) → HasDone asked (parts_unless why parts) (unless_refused bench watcher steps (option_map (answer.Refused caller) why) acted)
   unless_fault asked caller None parts acted one names rest = rest refl
   unless_fault asked caller (Some why) parts acted one names rest = record { does = Done; answer = (one, names) }
@@ -302,7 +302,7 @@ module _ {W : Type 0} (sees : Seeing W) (own : ℕ) (Fits : Wish → Type 0) (be
     answer = reclaim_told caller _ _ (end_of (link_in bench).callers caller);
   }
 
-  own_done : (asked : LinkAct (List ℕ)) (found : Option ℕ) (parts : List ActPart) (acted : Acted W) → IfSome found (IsCallerOf asked) → (found ≡ None → HasDone asked parts acted)
+  own_done : (asked : LinkAct (List ℕ)) (found : Option ℕ) (parts : List ActPart) (acted : ActResult W) → IfSome found (IsCallerOf asked) → (found ≡ None → HasDone asked parts acted)
       → HasDone asked (parts_unless found parts) (unless_own bench watcher steps found acted)
   own_done asked None parts acted one rest = rest refl
   own_done asked (Some caller) parts acted one rest = record { does = Done; answer = (one, tt) }

@@ -9,7 +9,7 @@ use Rattle.lane_model.specs.Recoveries.{link_after_close, link_after_reclaim, li
 use Rattle.lane_model.proofs.CrashMay.{close_may, reclaim_may, reopen_may}
 use Rattle.link_bench.specs.declared.benches.BegunCall.{BegunCall}
 use Rattle.link_bench.specs.Benches.{AreFitCalls, LinkRings, lists_of, on_rings}
-use Rattle.link_bench.proofs.Begun.{fit_cleared}
+use Rattle.link_bench.proofs.BegunCalls.{fit_cleared}
 use Rattle.link_bench.proofs.Lists.{reopen_rings}
 
 pub fit_closed : (link : LinkState EndState) (begun : List (Option BegunCall)) (inc : ℕ) → AreFitCalls link begun → AreFitCalls (link_after_close link inc) begun

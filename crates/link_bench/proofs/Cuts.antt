@@ -3,7 +3,7 @@ use Rattle.std.proofs.Common.{◌≡◌, ◌≤◌, ℕ, List, OnErr, Result, Ok
 use Rattle.rp_base.specs.declared.limits.TheConstants.{STEPS_MOST}
 use Rattle.link_bench.specs.declared.acts.LinkAct.{LinkAct}
 use Rattle.link_bench.specs.declared.acts.LinkAct.TheVariants as act
-use Rattle.link_bench.specs.Acts.{Acted, IsCutAct, IsFitAct}
+use Rattle.link_bench.specs.Acts.{ActResult, IsCutAct, IsFitAct}
 use Rattle.link_bench.specs.Benches.{BenchState}
 
 -- what holds anyway
@@ -17,7 +17,7 @@ module _ {W : Type 0} (P : BenchState → W → Type 0) where
   of_same bench left watcher seen benches watchers is = subst (λ (b : BenchState). P b seen) (sym benches) (subst (P bench) (sym watchers) is)
 
   -- what holds of what was there, and of what each fit act leaves, holds of what a fit act leaves that is cut short
-  pub cut_kept : (leaves : LinkAct (List ℕ) → Acted W) (asked : LinkAct (List ℕ)) (bench : BenchState) (watcher : W) (left : BenchState) (seen : W) → IsFitAct asked → P bench watcher
+  pub cut_kept : (leaves : LinkAct (List ℕ) → ActResult W) (asked : LinkAct (List ℕ)) (bench : BenchState) (watcher : W) (left : BenchState) (seen : W) → IsFitAct asked → P bench watcher
       → ((other : LinkAct (List ℕ)) → IsFitAct other → P (leaves other).bench (leaves other).watcher) → IsCutAct leaves asked bench watcher left seen → P left seen
   cut_kept leaves (act.Caller end) bench watcher left seen fit is each cut = of_same bench left watcher seen cut.0 cut.1 is
   cut_kept leaves (act.Call caller made wanted) bench watcher left seen fit is each cut = of_same bench left watcher seen cut.0 cut.1 is

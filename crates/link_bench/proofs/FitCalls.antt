@@ -15,10 +15,10 @@ use Rattle.link_bench.specs.declared.benches.BegunCall.{BegunCall}
 use Rattle.link_bench.specs.declared.benches.Reach.TheVariants as reach
 use Rattle.link_bench.specs.ActParts.{Advances, Begins, Calls, Joins, Reclaims, Sees}
 use Rattle.link_bench.specs.BenchCrashes.{after_reclaim, reclaim_leaves, reclaim_leaves_at}
-use Rattle.link_bench.specs.Benches.{AreFitCalls, BenchState, BenchWalk, IsSendable, LinkRings, OthersMay, advance_steps, advance_walk, begin_fault, begin_walk, begun_call_of, bench_walk, call_steps, is_in_call, later_steps, link_in, lists_of, on_rings, ready_fault, wish_fault, with_begun, with_new_caller}
+use Rattle.link_bench.specs.Benches.{AreFitCalls, BenchState, BenchWalk, IsSendable, LinkRings, OthersMay, advance_steps, advance_walk, begin_fault, begin_walk, begun_call_of, bench_walk, call_steps, is_in_call, later_steps, link_in, lists_of, on_rings, ready_fault, wish_fault, with_begun_call, with_new_caller}
 use Rattle.link_bench.specs.Watchers.{Seeing}
 use Rattle.link_bench.proofs.ActParts.{KeptByParts}
-use Rattle.link_bench.proofs.Begun.{begin_may, fit_after, fit_cleared, fit_put, neither_fault, none_begun}
+use Rattle.link_bench.proofs.BegunCalls.{begin_may, fit_after, fit_cleared, fit_put, neither_fault, none_begun}
 use Rattle.link_bench.proofs.BenchMay.{fit_reclaimed}
 use Rattle.link_bench.proofs.KeptWalks.{call_keeps, later_keeps, next_may}
 use Rattle.link_bench.proofs.Lists.{reclaim_lists}
@@ -90,7 +90,7 @@ pub fit_joined : (bench : BenchState) (end : End) → AreFit bench → AreFit (w
 fit_joined bench end fit caller call is = caller_may (link_in bench) end caller (Some call.wish) (fit caller call is)
 
 -- a call is begun
-pub fit_begun : (bench : BenchState) (caller : ℕ) (call : BegunCall) → begin_fault bench caller call.wish ≡ None → IsSendable call.wish → AreFit bench → AreFit (with_begun bench caller (Some call))
+pub fit_begun : (bench : BenchState) (caller : ℕ) (call : BegunCall) → begin_fault bench caller call.wish ≡ None → IsSendable call.wish → AreFit bench → AreFit (with_begun_call bench caller (Some call))
 fit_begun bench caller call ready sendable fit = fit_put bench.begun caller (link_in bench) call fit (begin_may bench caller call.wish sendable ready)
 
 -- a call from its first step on
@@ -107,7 +107,7 @@ advanced_at bench more steps caller (Some call) is in_call fit =
     let others = call_others more steps bench.rings caller call.follows call.wish (fit caller call (begun_at (slice_get bench.begun caller) call is)) in
     let after = (call_steps on_rings more steps bench.rings caller call.follows call.wish).link in
     cond_both (eqb steps STEPS_MOST) (record { bench = bench; steps = steps; reach = reach.Limit })
-    (bench_walk (with_begun bench caller None) (call_steps on_rings more steps bench.rings caller call.follows call.wish))
+    (bench_walk (with_begun_call bench caller None) (call_steps on_rings more steps bench.rings caller call.follows call.wish))
     (λ (walk : BenchWalk). AreFit walk.bench) (λ _. fit)
     (λ _. fit_cleared bench.begun caller (lists_of after) (λ other one differ at. others other (Some one.wish) differ (fit other one at)))
 advanced_at bench more steps caller None none in_call fit =

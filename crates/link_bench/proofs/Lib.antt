@@ -1,5 +1,5 @@
 pub mod Walks
-pub mod Begun
+pub mod BegunCalls
 pub mod AtOnce
 pub mod Lists
 pub mod KeptWalks

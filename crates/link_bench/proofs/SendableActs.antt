@@ -14,7 +14,7 @@ use Rattle.link_bench.specs.Benches.{BenchState, IsSendable}
 use Rattle.link_bench.specs.Turns.{turn_message}
 use Rattle.link_bench.specs.Acts.{IsFitAct, IsFitWish, misfit, wish_of}
 use Rattle.link_bench.proofs.ActWalks.{FitCalls}
-use Rattle.link_bench.proofs.Begun.{held_from}
+use Rattle.link_bench.proofs.BegunCalls.{held_from}
 
 -- a header has 16 bytes
 pub header_length : (src dst : ℕ) (payload : List ℕ) → length (header_bytes src dst payload) ≡ 16 + length payload

@@ -4,10 +4,10 @@ use Rattle.link_bench.specs.declared.turns.TurnEnd.{TurnEnd}
 use Rattle.link_bench.specs.declared.turns.TurnEnd.TheVariants as turn_end
 use Rattle.link_bench.specs.Benches.{BenchState}
 use Rattle.link_bench.specs.Watchers.{Seeing}
-use Rattle.link_bench.specs.Turns.{Turns, Pumped, is_whole, one_turn, pump_turns}
+use Rattle.link_bench.specs.Turns.{Turns, PumpResult, is_whole, one_turn, pump_turns}
 
 -- all turns are done
-abbrev pub whole_pump : {W : Type 0} → BenchState → W → ℕ → ℕ → Pumped W
+abbrev pub whole_pump : {W : Type 0} → BenchState → W → ℕ → ℕ → PumpResult W
 whole_pump bench watcher steps done = record { turns = record { bench = bench; watcher = watcher; steps = steps; ended = turn_end.Whole }; done = done }
 
 module _ {W : Type 0} (sees : Seeing W) (done sender receiver : ℕ) where
@@ -18,7 +18,7 @@ module _ {W : Type 0} (sees : Seeing W) (done sender receiver : ℕ) where
   turns_none bench watcher steps = refl
 
   -- one turn and more
-  abbrev after_turn : ℕ → Turns W → Pumped W
+  abbrev after_turn : ℕ → Turns W → PumpResult W
   after_turn more turn =
       cond (is_whole turn.ended) (pump_turns sees more (done + 1) sender receiver turn.bench turn.watcher turn.steps) (record { turns = turn; done = done })
 

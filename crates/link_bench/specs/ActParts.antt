@@ -13,7 +13,7 @@ use Rattle.link_bench.specs.declared.benches.Reach.{Reach}
 use Rattle.link_bench.specs.declared.turns.TurnEnd.{TurnEnd}
 use Rattle.link_bench.specs.Acts.{misfit, own_in, pump_refusal, wish_of}
 use Rattle.link_bench.specs.BenchCrashes.{reclaim_leaves}
-use Rattle.link_bench.specs.Benches.{BenchState, advance_walk, begin_fault, call_walk, link_in, ready_fault, step_fault, with_begun, with_new_caller}
+use Rattle.link_bench.specs.Benches.{BenchState, advance_walk, begin_fault, call_walk, link_in, ready_fault, step_fault, with_begun_call, with_new_caller}
 use Rattle.link_bench.specs.Turns.{is_whole, one_turn, turn_call, turn_message}
 use Rattle.link_bench.specs.Watchers.{Seeing, watcher_after}
 
@@ -34,7 +34,7 @@ pub data ActPart : Type 0 where
 -- what a part leaves of the bench
 abbrev pub bench_after : BenchState → ActPart → BenchState
 bench_after bench (Joins end) = with_new_caller bench end (free_number (link_in bench).callers)
-bench_after bench (Begins caller wanted) = with_begun bench caller (Some (record { follows = (link_in bench).era.inc; wish = wanted }))
+bench_after bench (Begins caller wanted) = with_begun_call bench caller (Some (record { follows = (link_in bench).era.inc; wish = wanted }))
 bench_after bench (Calls steps caller wanted) = (call_walk bench steps caller wanted).bench
 bench_after bench (Advances more steps caller) = (advance_walk bench more steps caller).bench
 bench_after bench (Sees caller came) = bench

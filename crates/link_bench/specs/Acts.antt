@@ -22,9 +22,9 @@ use Rattle.link_bench.specs.declared.acts.ActAnswer.TheVariants as answer
 use Rattle.link_bench.specs.declared.benches.BenchFault.{BenchFault}
 use Rattle.link_bench.specs.declared.benches.BenchFault.TheVariants as fault
 use Rattle.link_bench.specs.declared.bench_crashes.Reclaim.{Reclaim}
-use Rattle.link_bench.specs.Benches.{BenchState, BenchWalk, HoldsReachTaken, advance_walk, calling_fault, call_walk, is_in_call, link_in, ready_fault, step_fault, used_fault, with_begun, with_new_caller}
+use Rattle.link_bench.specs.Benches.{BenchState, BenchWalk, HoldsReachTaken, advance_walk, calling_fault, call_walk, is_in_call, link_in, ready_fault, step_fault, used_fault, with_begun_call, with_new_caller}
 use Rattle.link_bench.specs.BenchCrashes.{reclaim_answer, reclaim_leaves}
-use Rattle.link_bench.specs.Turns.{HoldsEndTaken, IsCutPump, Pumped, pump_turns}
+use Rattle.link_bench.specs.Turns.{HoldsEndTaken, IsCutPump, PumpResult, pump_turns}
 use Rattle.link_bench.specs.Watchers.{Seeing, watcher_after}
 
 -- what a call wishes, with the bytes that it names in place of what code has of them
@@ -58,21 +58,21 @@ IsFitAct (act.Pump sender receiver count) = (sender < CALLERS_MOST) × (receiver
 IsFitAct (act.Reclaim caller) = caller < CALLERS_MOST
 
 -- what an act leaves of the bench and of who watches its link, the steps of the run until then, and what comes of it
-pub record Acted (W : Type 0) : Type 0 where
+pub record ActResult (W : Type 0) : Type 0 where
   pub bench : BenchState
   pub watcher : W
   pub steps : ℕ
   pub answer : ActAnswer
 
 -- an act left and answered this
-pub record HasActed {W : Type 0} (acted : Acted W) (left : BenchState) (seen : W) (counted : ℕ) (told : ActAnswer) : Type 0 where
+pub record HasActResult {W : Type 0} (acted : ActResult W) (left : BenchState) (seen : W) (counted : ℕ) (told : ActAnswer) : Type 0 where
   pub bench : left ≡ acted.bench
   pub watcher : seen ≡ acted.watcher
   pub steps : counted ≡ acted.steps
   pub answer : told ≡ acted.answer
 
 -- an act on this bench that ends early, for want of memory, leaves that bench and this of who watches its link: a pump, what a pump of so many of its turns leaves, or of fewer; any other act, what was there
-abbrev pub IsCutAct : {W : Type 0} → (LinkAct (List ℕ) → Acted W) → LinkAct (List ℕ) → BenchState → W → BenchState → W → Type 0
+abbrev pub IsCutAct : {W : Type 0} → (LinkAct (List ℕ) → ActResult W) → LinkAct (List ℕ) → BenchState → W → BenchState → W → Type 0
 IsCutAct leaves (act.Pump sender receiver count) bench watcher left seen =
     IsCutPump (λ done. (leaves (act.Pump sender receiver done)).bench) (λ done. (leaves (act.Pump sender receiver done)).watcher) count left seen
 IsCutAct leaves other bench watcher left seen = (left ≡ bench) × (seen ≡ watcher)
@@ -90,16 +90,16 @@ HoldsAnswerTaken link (answer.Pumped done ended) = HoldsEndTaken link ended
 HoldsAnswerTaken link (answer.Reclaimed caller came) = Unit {0}
 
 -- an answer, and no step
-abbrev pub answers : {W : Type 0} → BenchState → W → ℕ → ActAnswer → Acted W
+abbrev pub answers : {W : Type 0} → BenchState → W → ℕ → ActAnswer → ActResult W
 answers bench watcher steps told = record { bench = bench; watcher = watcher; steps = steps; answer = told }
 
 -- a refusal, or what an act does
-abbrev pub unless_refused : {W : Type 0} → BenchState → W → ℕ → Option ActAnswer → Acted W → Acted W
+abbrev pub unless_refused : {W : Type 0} → BenchState → W → ℕ → Option ActAnswer → ActResult W → ActResult W
 unless_refused bench watcher steps None acted = acted
 unless_refused bench watcher steps (Some told) acted = answers bench watcher steps told
 
 -- a call came so far, and the watcher sees its end
-abbrev pub walk_act : {W : Type 0} → Seeing W → W → ℕ → BenchWalk → Acted W
+abbrev pub walk_act : {W : Type 0} → Seeing W → W → ℕ → BenchWalk → ActResult W
 walk_act sees watcher caller walk = record {
   bench = walk.bench;
   watcher = watcher_after sees walk.bench caller walk.reach watcher;
@@ -124,24 +124,24 @@ misfit bench caller (call.Give number) = if is_holding (link_in bench) caller nu
 misfit bench caller other = None
 
 -- a call is made whole, or is begun, and follows the incarnation that the link is in
-abbrev pub made_call : {W : Type 0} → Seeing W → BenchState → W → ℕ → ℕ → How → Wish → Acted W
+abbrev pub made_call : {W : Type 0} → Seeing W → BenchState → W → ℕ → ℕ → How → Wish → ActResult W
 made_call sees bench watcher steps caller how.Whole wanted = walk_act sees watcher caller (call_walk bench steps caller wanted)
 made_call sees bench watcher steps caller how.Begun wanted =
-    answers (with_begun bench caller (Some (record { follows = (link_in bench).era.inc; wish = wanted }))) watcher steps (answer.Begun caller)
+    answers (with_begun_call bench caller (Some (record { follows = (link_in bench).era.inc; wish = wanted }))) watcher steps (answer.Begun caller)
 
 -- a call of a caller
-unfoldable pub call_act : {W : Type 0} → Seeing W → BenchState → W → ℕ → ℕ → How → CallWish (List ℕ) → Acted W
+unfoldable pub call_act : {W : Type 0} → Seeing W → BenchState → W → ℕ → ℕ → How → CallWish (List ℕ) → ActResult W
 call_act sees bench watcher steps caller made wanted =
     unless_refused bench watcher steps (option_map (answer.Refused caller) (ready_fault bench caller))
     (unless_refused bench watcher steps (misfit bench caller wanted) (made_call sees bench watcher steps caller made (wish_of wanted)))
 
 -- one step of the call that a caller is in, and so many more
-unfoldable pub step_act : {W : Type 0} → Seeing W → BenchState → W → ℕ → ℕ → ℕ → Acted W
+unfoldable pub step_act : {W : Type 0} → Seeing W → BenchState → W → ℕ → ℕ → ℕ → ActResult W
 step_act sees bench watcher steps caller more =
     unless_refused bench watcher steps (option_map (answer.Refused caller) (step_fault bench caller)) (walk_act sees watcher caller (advance_walk bench more steps caller))
 
 -- what so many turns do
-abbrev pub turns_act : {W : Type 0} → Pumped W → Acted W
+abbrev pub turns_act : {W : Type 0} → PumpResult W → ActResult W
 turns_act turns = record { bench = turns.turns.bench; watcher = turns.turns.watcher; steps = turns.turns.steps; answer = answer.Pumped turns.done turns.turns.ended }
 
 -- the first of two refusals
@@ -165,7 +165,7 @@ pump_refusal bench sender receiver =
     (side_refusal (end_of (link_in bench).callers sender) (end_of (link_in bench).callers receiver) receiver))))
 
 -- so many turns of two callers
-unfoldable pub pump_act : {W : Type 0} → Seeing W → BenchState → W → ℕ → ℕ → ℕ → ℕ → Acted W
+unfoldable pub pump_act : {W : Type 0} → Seeing W → BenchState → W → ℕ → ℕ → ℕ → ℕ → ActResult W
 pump_act sees bench watcher steps sender receiver count =
     unless_refused bench watcher steps (pump_refusal bench sender receiver) (turns_act (pump_turns sees count 0 sender receiver bench watcher steps))
 
@@ -175,18 +175,18 @@ answer_of_reclaim caller (Ok came) = answer.Reclaimed caller came
 answer_of_reclaim caller (Err why) = answer.Refused caller why
 
 -- a reclaim of a caller
-abbrev pub reclaim_act : {W : Type 0} → BenchState → W → ℕ → ℕ → Acted W
+abbrev pub reclaim_act : {W : Type 0} → BenchState → W → ℕ → ℕ → ActResult W
 reclaim_act bench watcher steps caller =
     let why = link_reclaim_refusal (link_in bench) caller in
     answers (reclaim_leaves bench caller why) watcher steps (answer_of_reclaim caller (reclaim_answer (end_of (link_in bench).callers caller) why))
 
 -- a new caller at an end, under the least free number
-abbrev pub caller_act : {W : Type 0} → BenchState → W → ℕ → End → Option ℕ → Acted W
+abbrev pub caller_act : {W : Type 0} → BenchState → W → ℕ → End → Option ℕ → ActResult W
 caller_act bench watcher steps end None = answers bench watcher steps answer.CallersFull
 caller_act bench watcher steps end (Some number) = answers (with_new_caller bench end (Some number)) watcher steps (answer.Caller number end)
 
 -- an act of callers that are no actor's own
-abbrev pub free_act : {W : Type 0} → Seeing W → BenchState → W → ℕ → LinkAct (List ℕ) → Acted W
+abbrev pub free_act : {W : Type 0} → Seeing W → BenchState → W → ℕ → LinkAct (List ℕ) → ActResult W
 free_act sees bench watcher steps (act.Caller end) = caller_act bench watcher steps end (free_number (link_in bench).callers)
 free_act sees bench watcher steps (act.Call caller made wanted) = call_act sees bench watcher steps caller made wanted
 free_act sees bench watcher steps (act.Step caller more) = step_act sees bench watcher steps caller more
@@ -207,9 +207,9 @@ own_in bench own (act.Pump sender receiver count) =
 own_in bench own (act.Reclaim caller) = own_caller own caller
 
 -- an act on a link with so many own callers, the first ones, which are not there to others
-abbrev pub unless_own : {W : Type 0} → BenchState → W → ℕ → Option ℕ → Acted W → Acted W
+abbrev pub unless_own : {W : Type 0} → BenchState → W → ℕ → Option ℕ → ActResult W → ActResult W
 unless_own bench watcher steps (Some caller) acted = answers bench watcher steps (answer.Refused caller fault.NoCaller)
 unless_own bench watcher steps None acted = acted
 
-unfoldable pub link_act : {W : Type 0} → Seeing W → ℕ → BenchState → W → ℕ → LinkAct (List ℕ) → Acted W
+unfoldable pub link_act : {W : Type 0} → Seeing W → ℕ → BenchState → W → ℕ → LinkAct (List ℕ) → ActResult W
 link_act sees own bench watcher steps act = unless_own bench watcher steps (own_in bench own act) (free_act sees bench watcher steps act)

@@ -100,8 +100,8 @@ abbrev pub with_new_caller : BenchState → End → Option ℕ → BenchState
 with_new_caller bench end number = record bench { rings = record bench.rings { callers = with_caller bench.rings.callers end number } }
 
 -- the bench in which a caller has begun this call, or none
-abbrev pub with_begun : BenchState → ℕ → Option BegunCall → BenchState
-with_begun bench caller call = record bench { begun = slice_set bench.begun caller call }
+abbrev pub with_begun_call : BenchState → ℕ → Option BegunCall → BenchState
+with_begun_call bench caller call = record bench { begun = slice_set bench.begun caller call }
 
 -- how far a call of a bench came
 pub record BenchWalk : Type 0 where
@@ -117,7 +117,7 @@ bench_walk bench walk = record { bench = record bench { rings = walk.link }; ste
 abbrev pub advance_steps : BenchState → ℕ → ℕ → ℕ → Option BegunCall → BenchWalk
 advance_steps bench more steps caller (Some call) =
     if steps == STEPS_MOST then record { bench = bench; steps = steps; reach = reach.Limit }
-    else bench_walk (with_begun bench caller None) (call_steps on_rings more steps bench.rings caller call.follows call.wish)
+    else bench_walk (with_begun_call bench caller None) (call_steps on_rings more steps bench.rings caller call.follows call.wish)
 advance_steps bench more steps caller None = bench_walk bench (later_steps on_rings (more + 1) 0 steps bench.rings caller)
 
 -- so many steps of the call that a caller is in

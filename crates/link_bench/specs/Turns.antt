@@ -81,7 +81,7 @@ one_turn sees sender receiver number bench watcher steps =
     then_more watcher sent sent.number (λ _. take_turn sees receiver sent.bench watcher sent.steps)
 
 -- how far the turns came: how many were done, and what they leave
-pub record Pumped (W : Type 0) : Type 0 where
+pub record PumpResult (W : Type 0) : Type 0 where
   pub turns : Turns W
   pub done : ℕ
 
@@ -92,7 +92,7 @@ is_whole (turn_end.Fault caller why) = false
 is_whole (turn_end.Reached caller reached) = false
 
 -- so many turns, from the one of number `done` on: they go on after a whole one
-unfoldable pub pump_turns : {W : Type 0} → Seeing W → ℕ → ℕ → ℕ → ℕ → BenchState → W → ℕ → Pumped W
+unfoldable pub pump_turns : {W : Type 0} → Seeing W → ℕ → ℕ → ℕ → ℕ → BenchState → W → ℕ → PumpResult W
 pump_turns sees zero done sender receiver bench watcher steps =
     record { turns = record { bench = bench; watcher = watcher; steps = steps; ended = turn_end.Whole }; done = done }
 pump_turns sees (suc more) done sender receiver bench watcher steps =

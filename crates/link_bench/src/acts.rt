@@ -4,7 +4,7 @@ ghost use Rattle.lane_model.specs.Links.{LinkState};
 ghost use Rattle.channel_bus.specs.Sides.{EndState};
 ghost use Rattle.link_bench.specs.Benches.{HoldsReachTaken, IsSendable, link_in, ready_fault};
 ghost use Rattle.link_bench.specs.Turns.{IsCutPump};
-ghost use Rattle.link_bench.specs.Acts.{HasActed, HoldsAnswerTaken, IsCutAct, IsFitAct, IsFitWish, bare_act, bare_wish, call_act, free_act, link_act, misfit, own_caller, own_in, pump_act, pump_refusal, side_refusal, step_act, walk_act, wish_of};
+ghost use Rattle.link_bench.specs.Acts.{HasActResult, HoldsAnswerTaken, IsCutAct, IsFitAct, IsFitWish, bare_act, bare_wish, call_act, free_act, link_act, misfit, own_caller, own_in, pump_act, pump_refusal, side_refusal, step_act, walk_act, wish_of};
 
 use crate::bench_crashes::Reclaim;
 use crate::benches::{Bench, BenchFault, Reach};
@@ -118,7 +118,7 @@ impl Bench {
         steps: &mut StepCount,
     ) -> Result<ActAnswer, NoMemory>
         requires fit { IsFitAct (bare_act (λ bytes. bytes.now) act.now) }
-        ensures acted { IfOk result (HasActed (link_act W.sees own self.old (W.state watcher.old) steps.old (bare_act (λ bytes. bytes.now) act.now)) self.new (W.state watcher.new) steps.new) }
+        ensures acted { IfOk result (HasActResult (link_act W.sees own self.old (W.state watcher.old) steps.old (bare_act (λ bytes. bytes.now) act.now)) self.new (W.state watcher.new) steps.new) }
         ensures taken { IfOk result (HoldsAnswerTaken (link_in self.new)) }
         ensures cut { OnErr result (IsCutAct (link_act W.sees own self.old (W.state watcher.old) steps.old) (bare_act (λ bytes. bytes.now) act.now) self.old (W.state watcher.old) self.new (W.state watcher.new)) }
     {
@@ -159,7 +159,7 @@ impl Bench {
         steps: &mut StepCount,
     ) -> Result<ActAnswer, NoMemory>
         requires fit { IsFitAct (bare_act (λ bytes. bytes.now) act.now) }
-        ensures acted { IfOk result (HasActed (free_act W.sees self.old (W.state watcher.old) steps.old (bare_act (λ bytes. bytes.now) act.now)) self.new (W.state watcher.new) steps.new) }
+        ensures acted { IfOk result (HasActResult (free_act W.sees self.old (W.state watcher.old) steps.old (bare_act (λ bytes. bytes.now) act.now)) self.new (W.state watcher.new) steps.new) }
         ensures taken { IfOk result (HoldsAnswerTaken (link_in self.new)) }
         ensures cut { OnErr result (IsCutAct (free_act W.sees self.old (W.state watcher.old) steps.old) (bare_act (λ bytes. bytes.now) act.now) self.old (W.state watcher.old) self.new (W.state watcher.new)) }
     {
@@ -199,7 +199,7 @@ impl Bench {
     ) -> Result<ActAnswer, NoMemory>
         requires caller { caller < CALLERS_MOST }
         requires fit { IsFitWish (bare_wish (λ bytes. bytes.now) wish.now) }
-        ensures acted { IfOk result (HasActed (call_act W.sees self.old (W.state watcher.old) steps.old caller how (bare_wish (λ bytes. bytes.now) wish.now)) self.new (W.state watcher.new) steps.new) }
+        ensures acted { IfOk result (HasActResult (call_act W.sees self.old (W.state watcher.old) steps.old caller how (bare_wish (λ bytes. bytes.now) wish.now)) self.new (W.state watcher.new) steps.new) }
         ensures taken { IfOk result (HoldsAnswerTaken (link_in self.new)) }
         ensures unchanged { OnErr result (self.new ≡ self.old) }
         ensures unseen { OnErr result (W.state watcher.new ≡ W.state watcher.old) }
@@ -254,7 +254,7 @@ impl Bench {
     ) -> Result<ActAnswer, NoMemory>
         requires caller { caller < CALLERS_MOST }
         requires more { more < STEPS_MOST }
-        ensures acted { IfOk result (HasActed (step_act W.sees self.old (W.state watcher.old) steps.old caller more) self.new (W.state watcher.new) steps.new) }
+        ensures acted { IfOk result (HasActResult (step_act W.sees self.old (W.state watcher.old) steps.old caller more) self.new (W.state watcher.new) steps.new) }
         ensures taken { IfOk result (HoldsAnswerTaken (link_in self.new)) }
         ensures unchanged { OnErr result (self.new ≡ self.old) }
         ensures unseen { OnErr result (W.state watcher.new ≡ W.state watcher.old) }
@@ -279,7 +279,7 @@ impl Bench {
     ) -> ActAnswer
         requires room { W.HasRoom watcher.old }
         requires taken { HoldsReachTaken (link_in self.now) caller reach }
-        ensures acted { HasActed (walk_act W.sees (W.state watcher.old) caller (record { bench = self.now; steps = steps.now; reach = reach })) self.now (W.state watcher.new) steps.now result }
+        ensures acted { HasActResult (walk_act W.sees (W.state watcher.old) caller (record { bench = self.now; steps = steps.now; reach = reach })) self.now (W.state watcher.new) steps.now result }
         ensures taken { HoldsAnswerTaken (link_in self.now) result }
     {
         self.see_reach(watcher, caller, &reach);
@@ -302,7 +302,7 @@ impl Bench {
         requires sender { sender < CALLERS_MOST }
         requires receiver { receiver < CALLERS_MOST }
         requires count { count ≤ STEPS_MOST }
-        ensures acted { IfOk result (HasActed (pump_act W.sees self.old (W.state watcher.old) steps.old sender receiver count) self.new (W.state watcher.new) steps.new) }
+        ensures acted { IfOk result (HasActResult (pump_act W.sees self.old (W.state watcher.old) steps.old sender receiver count) self.new (W.state watcher.new) steps.new) }
         ensures taken { IfOk result (HoldsAnswerTaken (link_in self.new)) }
         ensures cut { let left = λ (done : ℕ). pump_act W.sees self.old (W.state watcher.old) steps.old sender receiver done in
             OnErr result (IsCutPump (λ done. (left done).bench) (λ done. (left done).watcher) count self.new (W.state watcher.new)) }

@@ -6,7 +6,7 @@ ghost use Rattle.lane_model.specs.Desks.{IsFreshDesk};
 ghost use Rattle.lane_model.specs.Conditions.{IsConfig, MayStep, is_calling, is_holding};
 ghost use Rattle.lane_model.specs.Soundness.{SoundLink};
 ghost use Rattle.managed_link.specs.Managed.{message_for};
-ghost use Rattle.link_bench.specs.Benches.{AreFitCalls, HoldsReachTaken, IsSendable, advance_walk, begin_fault, call_walk, counts_of, is_in_call, link_in, new_bench_of, no_begun_calls, ready_fault, start_walk, with_begun, with_new_caller};
+ghost use Rattle.link_bench.specs.Benches.{AreFitCalls, HoldsReachTaken, IsSendable, advance_walk, begin_fault, call_walk, counts_of, is_in_call, link_in, new_bench_of, no_begun_calls, ready_fault, start_walk, with_begun_call, with_new_caller};
 
 use crate::step_counts::StepCount;
 use crate::steps::{call_steps, later_steps};
@@ -166,7 +166,7 @@ impl Bench {
         ensures refused { IfErr result (λ _. self.new ≡ self.old) }
         ensures none { IfOk result (λ _. begin_fault self.old caller wished ≡ None) }
         ensures begun { IfOk result (λ _. self.new
-            ≡ with_begun self.old caller (Some (record { follows = (link_in self.old).era.inc; wish = wished }))) }
+            ≡ with_begun_call self.old caller (Some (record { follows = (link_in self.old).era.inc; wish = wished }))) }
     {
         if let Some(fault) = self.begin_fault(caller, &wished) {
             return Err(fault);
@@ -179,7 +179,7 @@ impl Bench {
     pub fn put_call(&mut self, caller: CallerNo, wished: Wish)
         requires caller { caller < CALLERS_MOST }
         requires ready { begin_fault self.old caller wished ≡ None }
-        ensures { self.new ≡ with_begun self.old caller (Some (record { follows = (link_in self.old).era.inc; wish = wished })) }
+        ensures { self.new ≡ with_begun_call self.old caller (Some (record { follows = (link_in self.old).era.inc; wish = wished })) }
     {
         show_sendable(&wished);
         self.begun[usize::from(caller)] = Some(BegunCall {

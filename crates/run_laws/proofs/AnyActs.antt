@@ -14,9 +14,10 @@ use Rattle.link_commands.specs.declared.acts.NamedAct.TheVariants as under
 use Rattle.link_commands.specs.Acts.{line_of}
 use Rattle.command_run.specs.NamedCores.{NamedCoreState}
 use Rattle.command_run.specs.Runs.{ObjectsState, RunState, effect_of, regions_of, run_of}
-use Rattle.command_run.specs.Stores.{Told}
+use Rattle.command_run.specs.Stores.{StoreAnswers}
 use Rattle.run_laws.proofs.CoreWalks.{FitsNamed, KeepCores}
-use Rattle.run_laws.proofs.RunWalks.{AreFitting, FitsLine, KeepRuns, effect_keeps, runs_keep}
+use Rattle.run_laws.proofs.RunInductions.{EachIs}
+use Rattle.run_laws.proofs.RunWalks.{FitsLine, KeepRuns, effect_keeps, runs_keep}
 
 -- nothing is asked of acts, nor of links
 abbrev pub AnyAct : LinkAct (List ℕ) → Type 0
@@ -38,7 +39,7 @@ any_line (line.Quiet set) = tt
 any_line (line.Dump name image) = tt
 any_line (line.On name wanted) = any_named wanted
 
-any_lines : (commands : List Command) → AreFitting AnyAct commands
+any_lines : (commands : List Command) → EachIs (λ asked. FitsLine AnyAct (line_of asked)) commands
 any_lines [] = tt
 any_lines (first ∷ more) = (any_line (line_of first), any_lines more)
 
@@ -61,5 +62,5 @@ module _ (C : CoreState → Type 0) (new : (set : RegionSet) (book : ℕ) → C 
       (effect_keeps AnyAct AnyBench C all_kept answer run wanted (any_line (line_of wanted)) (record { links = λ place item within. tt; cores = are })).cores
 
   -- a run
-  pub runs_keep_cores : (told : Told) (commands : List Command) → AreCores (run_of told commands).last.objects
+  pub runs_keep_cores : (told : StoreAnswers) (commands : List Command) → AreCores (run_of told commands).last.objects
   runs_keep_cores told commands = (runs_keep AnyAct AnyBench C all_kept told commands (any_lines commands)).cores

@@ -57,6 +57,6 @@ module _ (Fits : LinkAct (List ℕ) → Type 0) (C : CoreState → Type 0) (keep
     outcome_kept (Switches set) fits = keep.lives.same on.core (record on.core.life { recovery = is_on set }) on.core.image on.core.loaded (record { inc = refl; up = refl }) (inl refl) is
     outcome_kept came fits = is
 
-  pub core_kept : (images : List ImageState) (answer : ImageAnswer) (is_quiet : Bool) (on : NamedCoreState) (steps : ℕ) (wanted : NamedAct (List ℕ)) → FitsNamed Fits wanted → C on.core
+  pub core_is_kept : (images : List ImageState) (answer : ImageAnswer) (is_quiet : Bool) (on : NamedCoreState) (steps : ℕ) (wanted : NamedAct (List ℕ)) → FitsNamed Fits wanted → C on.core
       → C (core_effect images answer is_quiet on steps wanted).core
-  core_kept images answer is_quiet on steps wanted fits is = outcome_kept images answer is_quiet on steps is (act_outcome images answer is_quiet on steps wanted) fits
+  core_is_kept images answer is_quiet on steps wanted fits is = outcome_kept images answer is_quiet on steps is (act_outcome images answer is_quiet on steps wanted) fits

@@ -6,13 +6,13 @@ use Rattle.crash_recover.specs.Cores.{IsKeptCore}
 use Rattle.core_laws.proofs.CoreActs.{core_act_kept}
 use Rattle.core_laws.proofs.KeptCores.{core_driven, kept_stays}
 use Rattle.command_run.specs.Runs.{RunState, effect_of, run_of}
-use Rattle.command_run.specs.Stores.{Told}
+use Rattle.command_run.specs.Stores.{StoreAnswers}
 use Rattle.run_laws.specs.Kept.{AreKept}
 use Rattle.run_laws.proofs.AnyActs.{AnyAct, effect_keeps_cores, runs_keep_cores}
 use Rattle.run_laws.proofs.CoreWalks.{KeepCores}
 
-pub cores_kept : KeepCores AnyAct IsKeptCore
-cores_kept = record {
+pub cores_are_kept : KeepCores AnyAct IsKeptCore
+cores_are_kept = record {
   region = λ core region clear is. is;
   driver = λ core channel kind is. is;
   lives = kept_stays;
@@ -22,8 +22,8 @@ cores_kept = record {
 
 -- a command
 pub effect_kept : (answer : ImageAnswer) (run : RunState) (wanted : Command) → AreKept run.objects → AreKept (effect_of answer run wanted).run.objects
-effect_kept = effect_keeps_cores IsKeptCore (λ set book. tt) cores_kept
+effect_kept = effect_keeps_cores IsKeptCore (λ set book. tt) cores_are_kept
 
 -- a run
-pub runs_kept : (told : Told) (commands : List Command) → AreKept (run_of told commands).last.objects
-runs_kept = runs_keep_cores IsKeptCore (λ set book. tt) cores_kept
+pub runs_kept : (told : StoreAnswers) (commands : List Command) → AreKept (run_of told commands).last.objects
+runs_kept = runs_keep_cores IsKeptCore (λ set book. tt) cores_are_kept

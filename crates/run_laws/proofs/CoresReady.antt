@@ -11,7 +11,7 @@ use Rattle.core_laws.proofs.KeptCores.{kept_stays}
 use Rattle.core_laws.proofs.Outcomes.{Stays}
 use Rattle.core_laws.proofs.ReadyLives.{drive_ready, ready_stays}
 use Rattle.run_laws.proofs.CoreWalks.{KeepCores}
-use Rattle.run_laws.proofs.CoresKept.{cores_kept}
+use Rattle.run_laws.proofs.CoresKept.{cores_are_kept}
 
 -- what a core of a run is
 pub record IsSoundCore (core : CoreState) : Type 0 where
@@ -74,12 +74,12 @@ sound_cores = record {
       let may = may_drive core up is in
       record {
         reached = core_driven core may is.reached;
-        kept = cores_kept.drive core up is.kept;
+        kept = cores_are_kept.drive core up is.kept;
         ready = drive_ready core may is.reached;
       };
   act = λ core steps asked fits is. record {
     reached = core_act_reached core steps asked fits is.reached;
-    kept = cores_kept.act core steps asked tt is.kept;
+    kept = cores_are_kept.act core steps asked tt is.kept;
     ready = core_act_ready core steps asked fits is.reached is.ready;
   };
 }

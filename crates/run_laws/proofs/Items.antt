@@ -5,7 +5,7 @@ use Rattle.std.proofs.lemmas.Bool.{true≢false}
 use Rattle.std.proofs.lemmas.Bool.Decides.{eqb_tells}
 use Rattle.std.proofs.lemmas.List.Quantifiers.{position-Some}
 use Rattle.std.proofs.lemmas.Option.{slice_get-get_or}
-use Rattle.link_bench.proofs.Begun.{get-set_other}
+use Rattle.link_bench.proofs.BegunCalls.{get-set_other}
 
 -- what is found at one place is one
 pub some_is : {X : Type 0} (one other : X) → Some one ≡ Some other → one ≡ other

@@ -3,6 +3,7 @@ pub mod ScriptDrives
 pub mod CoreActWalks
 pub mod CoreWalks
 pub mod CommandWalks
+pub mod RunInductions
 pub mod RunWalks
 pub mod RunnableLines
 pub mod RunsReached

@@ -23,7 +23,7 @@ use Rattle.script_lang.specs.declared.commands.Command.{Command}
 use Rattle.script_lang.specs.declared.commands.RegionSet.{RegionSet}
 use Rattle.script_lang.specs.declared.commands.RegionSet.TheVariants as set
 use Rattle.command_run.specs.Runs.{RunState, effect_of, regions_of, run_of}
-use Rattle.command_run.specs.Stores.{Told}
+use Rattle.command_run.specs.Stores.{StoreAnswers}
 use Rattle.run_laws.specs.Kept.{HaveSoundRegions}
 use Rattle.run_laws.proofs.AnyActs.{AnyAct, effect_keeps_cores, runs_keep_cores}
 use Rattle.run_laws.proofs.CoreWalks.{KeepCores}
@@ -107,5 +107,5 @@ pub effect_sound : (answer : ImageAnswer) (run : RunState) (wanted : Command) �
 effect_sound = effect_keeps_cores HasSoundRegions (λ regions book. first_sound regions) cores_sound
 
 -- a run
-pub runs_sound : (told : Told) (commands : List Command) → HaveSoundRegions (run_of told commands).last.objects
+pub runs_sound : (told : StoreAnswers) (commands : List Command) → HaveSoundRegions (run_of told commands).last.objects
 runs_sound = runs_keep_cores HasSoundRegions (λ regions book. first_sound regions) cores_sound

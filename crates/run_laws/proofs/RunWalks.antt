@@ -1,5 +1,5 @@
 -- A run keeps what is kept of its links and of its cores.
-use Rattle.std.proofs.Common.{◌≡◌, ℕ, Bool, false, List, [], ◌∷◌, All, Option, Some, None, slice_get, subst}
+use Rattle.std.proofs.Common.{◌≡◌, ℕ, Bool, false, List, [], All, Some, slice_get, subst}
 use Rattle.std.proofs.lemmas.List.Elements.{All-nil, All-push, All-set}
 use Rattle.std.proofs.lemmas.Option.{get_or_from_slice_get, slice_get_within}
 use Rattle.rp_io.specs.Images.{ImageAnswer}
@@ -13,15 +13,15 @@ use Rattle.crash_recover.specs.Cores.{CoreState, new_core}
 use Rattle.link_commands.specs.declared.acts.Line.{Line}
 use Rattle.link_commands.specs.declared.acts.Line.TheVariants as line
 use Rattle.link_commands.specs.declared.acts.NamedAct.{NamedAct}
-use Rattle.link_commands.specs.declared.stops.Stop.{Stop}
 use Rattle.link_commands.specs.Acts.{line_of}
 use Rattle.link_commands.specs.LinkCommands.{link_effect}
 use Rattle.command_run.specs.NamedCores.{NamedCoreState}
 use Rattle.link_commands.specs.NamedLinks.{NamedLink}
-use Rattle.command_run.specs.Runs.{ObjectsState, Run, RunEffect, RunState, asked_name, effect_of, new_end, new_run, regions_of, run_from, run_of, run_on, run_told}
-use Rattle.command_run.specs.Stores.{Told, later_told, told_answer}
+use Rattle.command_run.specs.Runs.{ObjectsState, RunEffect, RunState, effect_of, new_end, new_run, regions_of, run_of}
+use Rattle.command_run.specs.Stores.{StoreAnswers}
 use Rattle.run_laws.proofs.CommandWalks.{ActsOnCore, ActsOnLink, CommandOutcome, MakesCore, MakesLink, outcome}
-use Rattle.run_laws.proofs.CoreWalks.{FitsNamed, KeepCores, core_kept}
+use Rattle.run_laws.proofs.CoreWalks.{FitsNamed, KeepCores, core_is_kept}
+use Rattle.run_laws.proofs.RunInductions.{EachIs, any_answers, state_kept}
 
 -- an item at a place
 pub item_at : {X : Type 0} (P : X → Type 0) (items : List X) (place : ℕ) (item : X) → slice_get items place ≡ Some item → All P items → P item
@@ -46,11 +46,6 @@ FitsLine Fits (line.Quiet set) = Unit {0}
 FitsLine Fits (line.Dump name image) = Unit {0}
 FitsLine Fits (line.On name wanted) = FitsNamed Fits wanted
 
--- this is known of the acts of commands
-abbrev pub AreFitting : (LinkAct (List ℕ) → Type 0) → List Command → Type 0
-AreFitting Fits [] = Unit {0}
-AreFitting Fits (first ∷ more) = FitsLine Fits (line_of first) × AreFitting Fits more
-
 module _ (Fits : LinkAct (List ℕ) → Type 0) (L : BenchState → Type 0) (C : CoreState → Type 0) (keep : KeepRuns Fits L C) where
   -- whatever the outcome of a command is
   module _ (answer : ImageAnswer) (run : RunState) (are : AreAll L C run.objects) where
@@ -71,7 +66,7 @@ module _ (Fits : LinkAct (List ℕ) → Type 0) (L : BenchState → Type 0) (C :
     outcome_keeps (ActsOnCore name wanted place on at) fits = record {
       links = are.links;
       cores = All-set (λ (named : NamedCoreState). C named.core) run.objects.cores place _
-          (core_kept Fits C keep.core run.objects.images answer run.objects.is_quiet on run.steps wanted fits
+          (core_is_kept Fits C keep.core run.objects.images answer run.objects.is_quiet on run.steps wanted fits
           (item_at (λ (named : NamedCoreState). C named.core) run.objects.cores place on at.found are.cores)) are.cores;
     }
     outcome_keeps came fits = record { links = are.links; cores = are.cores }
@@ -81,29 +76,8 @@ module _ (Fits : LinkAct (List ℕ) → Type 0) (L : BenchState → Type 0) (C :
       → AreAll L C (effect_of answer run wanted).run.objects
   effect_keeps answer run wanted fits are = outcome_keeps answer run are (outcome answer run wanted) fits
 
-  -- ---- runs
-
-  on_kept : (effect : RunEffect) (ending : Option Stop) (later : Run) → AreAll L C effect.run.objects → AreAll L C later.last.objects → AreAll L C (run_on effect ending later).last.objects
-  on_kept effect None later left rest = rest
-  on_kept effect (Some why) later left rest = left
-
-  told_kept : (run : RunState) (wanted : Command) (answer : Option ImageAnswer) (later : RunState → Run) → FitsLine Fits (line_of wanted) → AreAll L C run.objects
-      → ((next : RunState) → AreAll L C next.objects → AreAll L C (later next).last.objects) → AreAll L C (run_told run wanted answer later).last.objects
-  told_kept run wanted None later fits are rest = are
-  told_kept run wanted (Some answer) later fits are rest =
-      let effect = effect_of answer run wanted in
-      let left = effect_keeps answer run wanted fits are in
-      on_kept effect effect.ending (later effect.run) left (rest effect.run left)
-
-  run_kept : (told : Told) (run : RunState) (commands : List Command) → AreFitting Fits commands → AreAll L C run.objects → AreAll L C (run_from told run commands).last.objects
-  unfolding run_from
-  run_kept told run [] fit are = are
-  run_kept told run (first ∷ more) fit are =
-      told_kept run first (told_answer (told 0) (asked_name run.objects first)) (λ next. run_from (later_told told) next more) fit.0 are
-      (λ next there. run_kept (later_told told) next more fit.1 there)
-
   -- a run from nothing
-  pub runs_keep : (told : Told) (commands : List Command) → AreFitting Fits commands → AreAll L C (run_of told commands).last.objects
+  pub runs_keep : (told : StoreAnswers) (commands : List Command) → EachIs (λ asked. FitsLine Fits (line_of asked)) commands → AreAll L C (run_of told commands).last.objects
   runs_keep told commands fit =
-      run_kept told new_run commands fit
+      state_kept (λ asked. FitsLine Fits (line_of asked)) (λ answer. Unit {0}) (λ run. AreAll L C run.objects) (λ answer run asked any. effect_keeps answer run asked) told new_run commands (any_answers told) fit
       (record { links = All-nil (λ (named : NamedLink). L named.bench); cores = All-nil (λ (named : NamedCoreState). C named.core) })

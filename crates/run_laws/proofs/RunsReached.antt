@@ -1,5 +1,5 @@
 -- What a run leaves of its links and its cores is reached, kept and ready.
-use Rattle.std.proofs.Common.{◌≡◌, ℕ, ◌+◌, ◌==◌, Bool, false, List, [], ◌∷◌, Option, Some, None, IfSome, refl}
+use Rattle.std.proofs.Common.{◌≡◌, ℕ, ◌+◌, ◌==◌, Bool, false, List, [], Option, Some, None, IfSome, refl}
 use Rattle.std.specs.Prelude.{Contains}
 use Rattle.std.proofs.lemmas.Bool.{cond_both}
 use Rattle.std.proofs.lemmas.List.Elements.{All-contains, All-nil}
@@ -21,7 +21,7 @@ use Rattle.core_laws.specs.BenchMoves.{IsReached, IsReachedBench, IsReachedCore}
 use Rattle.core_laws.proofs.BenchMoves.{closed, new_reached, reopened}
 use Rattle.core_laws.proofs.CoreActs.{acted_reached}
 use Rattle.core_laws.proofs.CoreMoves.{new_core_reached}
-use Rattle.core_laws.proofs.Handed.{got_front, got_whole, handed_once}
+use Rattle.core_laws.proofs.HandedMessages.{got_front, got_whole, handed_once}
 use Rattle.core_laws.proofs.CrashReclaims.{reached_sound}
 use Rattle.link_commands.specs.declared.acts.ManagerAct.{ManagerAct}
 use Rattle.link_commands.specs.declared.acts.ManagerAct.TheVariants as manager
@@ -34,22 +34,19 @@ use Rattle.command_run.specs.NamedCores.{NamedCoreState}
 use Rattle.link_commands.specs.NamedLinks.{NamedLink}
 use Rattle.link_commands.specs.Recoveries.{close_effect, close_event, opened_effect, reopen_effect}
 use Rattle.command_run.specs.Runs.{ObjectsState, RunState, effect_of, new_end, new_run, regions_of, run_of}
-use Rattle.command_run.specs.Stores.{Told}
+use Rattle.command_run.specs.Stores.{StoreAnswers}
 use Rattle.run_laws.specs.Kept.{AreKept, AreReady}
 use Rattle.run_laws.specs.Reached.{AreReached, HandsInOrder}
 use Rattle.run_laws.proofs.CoreWalks.{FitsNamed}
 use Rattle.run_laws.proofs.CoresReady.{IsSoundCore, sound_cores}
 use Rattle.run_laws.proofs.RunnableLines.{runnable_fits, runnable_line}
-use Rattle.run_laws.proofs.RunWalks.{AreAll, AreFitting, FitsLine, KeepRuns, effect_keeps, runs_keep}
+use Rattle.run_laws.proofs.RunInductions.{each_is}
+use Rattle.run_laws.proofs.RunWalks.{AreAll, FitsLine, KeepRuns, effect_keeps, runs_keep}
 
 -- ---- acts of commands that can be run
 
 pub line_fits : (wanted : Command) → IsRunnable wanted → FitsLine IsFitAct (line_of wanted)
 line_fits wanted runs = runnable_fits (line_of wanted) (runnable_line wanted runs)
-
-pub lines_fit : (commands : List Command) → AreRunnable commands → AreFitting IsFitAct commands
-lines_fit [] runs = tt
-lines_fit (first ∷ more) runs = (line_fits first runs.0, lines_fit more runs.1)
 
 -- ---- what the manager of a link does
 
@@ -107,8 +104,8 @@ pub command_sound : (answer : ImageAnswer) (run : RunState) (wanted : Command) �
 command_sound answer run wanted runs are = effect_keeps IsFitAct IsReachedBench IsSoundCore all_sound answer run wanted (line_fits wanted runs) are
 
 -- a run
-pub run_sound : (told : Told) (commands : List Command) → AreRunnable commands → AreSound (run_of told commands).last.objects
-run_sound told commands runs = runs_keep IsFitAct IsReachedBench IsSoundCore all_sound told commands (lines_fit commands runs)
+pub run_sound : (told : StoreAnswers) (commands : List Command) → AreRunnable commands → AreSound (run_of told commands).last.objects
+run_sound told commands runs = runs_keep IsFitAct IsReachedBench IsSoundCore all_sound told commands (each_is line_fits commands runs)
 
 -- the same, part by part
 are_reached : (objects : ObjectsState) → AreSound objects → AreReached objects
@@ -129,10 +126,10 @@ module _ (answer : ImageAnswer) (run : RunState) (wanted : Command) (runs : IsRu
   pub effect_ready : AreReady (effect_of answer run wanted).run.objects
   effect_ready = are_ready (effect_of answer run wanted).run.objects left
 
-pub runs_reached : (told : Told) (commands : List Command) → AreRunnable commands → AreReached (run_of told commands).last.objects
+pub runs_reached : (told : StoreAnswers) (commands : List Command) → AreRunnable commands → AreReached (run_of told commands).last.objects
 runs_reached told commands runs = are_reached (run_of told commands).last.objects (run_sound told commands runs)
 
-pub runs_ready : (told : Told) (commands : List Command) → AreRunnable commands → AreReady (run_of told commands).last.objects
+pub runs_ready : (told : StoreAnswers) (commands : List Command) → AreRunnable commands → AreReady (run_of told commands).last.objects
 runs_ready told commands runs = are_ready (run_of told commands).last.objects (run_sound told commands runs)
 
 -- ---- what links have handed over
@@ -144,17 +141,17 @@ core_in_order : (found : Option BenchState) → IfSome found IsReachedBench → 
 core_in_order None is = is
 core_in_order (Some bench) is = in_order (link_in bench) is.link
 
-pub links_in_order : (told : Told) (commands : List Command) (named : NamedLink) → AreRunnable commands → Contains (run_of told commands).last.objects.links named
+pub links_in_order : (told : StoreAnswers) (commands : List Command) (named : NamedLink) → AreRunnable commands → Contains (run_of told commands).last.objects.links named
     → HandsInOrder (link_in named.bench)
 links_in_order told commands named runs there =
     in_order (link_in named.bench) (All-contains (λ (named : NamedLink). IsReachedBench named.bench) _ named (runs_reached told commands runs).links there).link
 
-pub cores_in_order : (told : Told) (commands : List Command) (named : NamedCoreState) → AreRunnable commands → Contains (run_of told commands).last.objects.cores named
+pub cores_in_order : (told : StoreAnswers) (commands : List Command) (named : NamedCoreState) → AreRunnable commands → Contains (run_of told commands).last.objects.cores named
     → IfSome named.core.bench (λ (bench : BenchState). HandsInOrder (link_in bench))
 cores_in_order told commands named runs there =
     core_in_order named.core.bench (All-contains (λ (named : NamedCoreState). IsReachedCore named.core) _ named (runs_reached told commands runs).cores there).bench
 
-pub links_sound : (told : Told) (commands : List Command) (named : NamedLink) → AreRunnable commands → Contains (run_of told commands).last.objects.links named
+pub links_sound : (told : StoreAnswers) (commands : List Command) (named : NamedLink) → AreRunnable commands → Contains (run_of told commands).last.objects.links named
     → SoundLink (link_in named.bench)
 links_sound told commands named runs there =
     reached_sound (link_in named.bench) (All-contains (λ (named : NamedLink). IsReachedBench named.bench) _ named (runs_reached told commands runs).links there).link
@@ -163,7 +160,7 @@ core_sound : (found : Option BenchState) → IfSome found IsReachedBench → IfS
 core_sound None is = is
 core_sound (Some bench) is = reached_sound (link_in bench) is.link
 
-pub cores_sound : (told : Told) (commands : List Command) (named : NamedCoreState) → AreRunnable commands → Contains (run_of told commands).last.objects.cores named
+pub cores_sound : (told : StoreAnswers) (commands : List Command) (named : NamedCoreState) → AreRunnable commands → Contains (run_of told commands).last.objects.cores named
     → IfSome named.core.bench (λ (bench : BenchState). SoundLink (link_in bench))
 cores_sound told commands named runs there =
     core_sound named.core.bench (All-contains (λ (named : NamedCoreState). IsReachedCore named.core) _ named (runs_reached told commands runs).cores there).bench

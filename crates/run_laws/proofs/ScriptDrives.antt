@@ -14,8 +14,8 @@ use Rattle.command_run.specs.CoreEffects.{CoreEffect, core_tells}
 use Rattle.command_run.specs.CoreDrives.{IsDriven, drive_effect, drive_end, drive_steps, effect_behind, is_crashed, rest_event, rests_or, step_events}
 use Rattle.command_run.specs.CoreLives.{core_stops}
 use Rattle.command_run.proofs.Driving.{step_driven, steps_end, steps_more}
-use Rattle.drive_laws.specs.Steps.{after_drive, after_steps, has_crashed, rests, steps_made}
-use Rattle.run_laws.specs.Drives.{drive_made, last_event, steps_events}
+use Rattle.drive_laws.specs.Steps.{after_drive, after_steps, has_crashed, rests, drive_length}
+use Rattle.run_laws.specs.Drives.{drive_length_within, last_event, steps_events}
 
 -- ---- why it ends
 
@@ -56,19 +56,19 @@ module _ (name : List ℕ) where
 drive_by : (P : ℕ → ℕ → CoreState → ℕ → Type 0)
     → ((count : ℕ) (core : CoreState) (steps : ℕ) → (count ≡ 0) ⊎ ((rests core || steps == STEPS_MOST) ≡ true) → P 0 count core steps)
     → ((made count : ℕ) (core : CoreState) (steps : ℕ) → rests core ≡ false → (steps == STEPS_MOST) ≡ false → P made count (drive_step core).core (steps + 1) → P (suc made) (suc count) core steps)
-    → (count : ℕ) (core : CoreState) (steps : ℕ) → P (drive_made count core steps) count core steps
+    → (count : ℕ) (core : CoreState) (steps : ℕ) → P (drive_length_within count core steps) count core steps
 drive_by P none one zero core steps = none zero core steps (inl refl)
 drive_by P none one (suc more) core steps = by (rests core || steps == STEPS_MOST) refl (drive_by P none one more (drive_step core).core (steps + 1))
   where
-    by : (over : Bool) → (rests core || steps == STEPS_MOST) ≡ over → let made = drive_made more (drive_step core).core (steps + 1) in
+    by : (over : Bool) → (rests core || steps == STEPS_MOST) ≡ over → let made = drive_length_within more (drive_step core).core (steps + 1) in
         P made more (drive_step core).core (steps + 1) → P (cond over 0 (suc made)) (suc more) core steps
     by true over later = none (suc more) core steps (inr over)
-    by false on later = let parts = or_parts (rests core) (steps == STEPS_MOST) on in one (drive_made more (drive_step core).core (steps + 1)) more core steps parts.0 parts.1 later
+    by false on later = let parts = or_parts (rests core) (steps == STEPS_MOST) on in one (drive_length_within more (drive_step core).core (steps + 1)) more core steps parts.0 parts.1 later
 
 -- what holds of no step, and of a step of a core that is up and then others where it holds of these, holds of the steps that a drive makes of a core that is up
 pub drive_while_up : (P : ℕ → CoreState → Type 0) → ((core : CoreState) → P 0 core)
     → ((made : ℕ) (core : CoreState) → is_up core.life.state ≡ true → P made (drive_step core).core → P (suc made) core)
-    → (count : ℕ) (core : CoreState) (steps : ℕ) → is_up core.life.state ≡ true → P (drive_made count core steps) core
+    → (count : ℕ) (core : CoreState) (steps : ℕ) → is_up core.life.state ≡ true → P (drive_length_within count core steps) core
 drive_while_up P none one count core steps up =
     drive_by (λ made count core steps. IsDriven core → P made core)
     (λ count core steps over driven. none core)
@@ -76,7 +76,7 @@ drive_while_up P none one count core steps up =
     count core steps (λ _. up)
 
 -- where the run has steps enough, they are those of a drive
-pub all_made : (count : ℕ) (core : CoreState) (steps : ℕ) → steps + count ≤ STEPS_MOST → drive_made count core steps ≡ steps_made count core
+pub all_made : (count : ℕ) (core : CoreState) (steps : ℕ) → steps + count ≤ STEPS_MOST → drive_length_within count core steps ≡ drive_length count core
 all_made zero core steps fits = refl
 all_made (suc more) core steps fits =
     let few = ne_eqb steps STEPS_MOST (λ full. absurd (omega (arith, full, fits))) in
@@ -88,7 +88,7 @@ all_made (suc more) core steps fits =
     or_none false second none = none
 
 -- fewer than all are made only where the core rests or the run has no step left
-pub drive_fewer : (count : ℕ) (core : CoreState) (steps : ℕ) → let made = drive_made count core steps in made < count → rests (after_steps made core) ≡ false → steps + made ≡ STEPS_MOST
+pub drive_fewer : (count : ℕ) (core : CoreState) (steps : ℕ) → let made = drive_length_within count core steps in made < count → rests (after_steps made core) ≡ false → steps + made ≡ STEPS_MOST
 drive_fewer =
     drive_by (λ made count core steps. made < count → rests (after_steps made core) ≡ false → steps + made ≡ STEPS_MOST)
     (λ count core steps none less goes.
@@ -97,7 +97,7 @@ drive_fewer =
 
 -- what each step of a core that doesn't rest keeps, with one step of the run more, all these steps keep
 pub steps_keep : (P : CoreState → ℕ → Type 0) → ((core : CoreState) (steps : ℕ) → rests core ≡ false → P core steps → P (drive_step core).core (steps + 1))
-    → (count : ℕ) (core : CoreState) (steps : ℕ) → P core steps → let made = drive_made count core steps in P (after_steps made core) (steps + made)
+    → (count : ℕ) (core : CoreState) (steps : ℕ) → P core steps → let made = drive_length_within count core steps in P (after_steps made core) (steps + made)
 steps_keep P keeps =
     drive_by (λ made count core steps. P core steps → P (after_steps made core) (steps + made))
     (λ count core steps over is. let all : steps ≡ steps + 0 = omega arith in subst (P core) all is)
@@ -132,7 +132,7 @@ module _ (name : List ℕ) (is_quiet : Bool) where
       ∙ λ k. effect_behind (first ++ told) (drive_end (left k) name (after_steps made (drive_step core).core) (all k))
 
   -- a drive makes its steps and then ends
-  pub drive_walked : (count : ℕ) (core : CoreState) (steps : ℕ) → drive_steps count name is_quiet core steps ≡ walked (drive_made count core steps) count core steps
+  pub drive_walked : (count : ℕ) (core : CoreState) (steps : ℕ) → drive_steps count name is_quiet core steps ≡ walked (drive_length_within count core steps) count core steps
   drive_walked = drive_by (λ made count core steps. drive_steps count name is_quiet core steps ≡ walked made count core steps) none_walked one_walked
 
   -- an end tells why, or the run stops where a step is left of a core that doesn't rest
@@ -147,11 +147,11 @@ module _ (name : List ℕ) (is_quiet : Bool) where
           cond_both (left == 0) (core_tells core steps (event.Paused name)) (core_stops core steps) P (λ _. tells) (λ some. stops some (sym (some_rests name core) ∙ ap (λ (found : Option Event). is_some found) is))
 
   -- it tells why it ended, or the run stops, which has no step left for the next
-  pub drive_as : (P : CoreEffect → Type 0) (count : ℕ) (core : CoreState) (steps : ℕ) → let made = drive_made count core steps in let left = after_steps made core in let told = steps_events made name is_quiet core in
+  pub drive_as : (P : CoreEffect → Type 0) (count : ℕ) (core : CoreState) (steps : ℕ) → let made = drive_length_within count core steps in let left = after_steps made core in let told = steps_events made name is_quiet core in
       P (effect_behind told (core_tells left (steps + made) (last_event name left)))
       → (made < count → rests left ≡ false → steps + made ≡ STEPS_MOST → P (effect_behind told (core_stops left (steps + made)))) → P (drive_steps count name is_quiet core steps)
   drive_as P count core steps tells stops =
-      let made = drive_made count core steps in
+      let made = drive_length_within count core steps in
       subst P (sym (drive_walked count core steps))
       (end_as (λ effect. P (effect_behind (steps_events made name is_quiet core) effect)) (count - made) (after_steps made core) (steps + made) tells
       (λ some goes.
@@ -161,16 +161,16 @@ module _ (name : List ℕ) (is_quiet : Bool) where
   -- where the run has steps enough, it tells why it ended
   pub drive_whole : (count : ℕ) (core : CoreState) (steps : ℕ) → steps + count ≤ STEPS_MOST → let left = after_drive count core in
       drive_steps count name is_quiet core steps
-      ≡ effect_behind (steps_events (steps_made count core) name is_quiet core) (core_tells left (steps + steps_made count core) (last_event name left))
+      ≡ effect_behind (steps_events (drive_length count core) name is_quiet core) (core_tells left (steps + drive_length count core) (last_event name left))
   drive_whole count core steps fits =
       let whole : ℕ → CoreEffect = λ made. let left = after_steps made core in effect_behind (steps_events made name is_quiet core) (core_tells left (steps + made) (last_event name left)) in
-      drive_as (λ effect. effect ≡ whole (drive_made count core steps)) count core steps refl (λ less goes full. absurd (omega (arith, less, full, fits))) ∙ ap whole (all_made count core steps fits)
+      drive_as (λ effect. effect ≡ whole (drive_length_within count core steps)) count core steps refl (λ less goes full. absurd (omega (arith, less, full, fits))) ∙ ap whole (all_made count core steps fits)
 
   -- what holds of all that its steps tell and of why it ended holds of all that it tells
-  pub drive_told : (Q : Event → Type 0) (count : ℕ) (core : CoreState) (steps : ℕ) → let made = drive_made count core steps in
+  pub drive_told : (Q : Event → Type 0) (count : ℕ) (core : CoreState) (steps : ℕ) → let made = drive_length_within count core steps in
       All Q (steps_events made name is_quiet core) → Q (last_event name (after_steps made core)) → All Q (drive_steps count name is_quiet core steps).events
   drive_told Q count core steps told last =
-      let made = drive_made count core steps in
+      let made = drive_length_within count core steps in
       let all : (ending : List Event) → All Q ending → All Q (steps_events made name is_quiet core ++ ending) = λ ending. All-append Q (steps_events made name is_quiet core) ending told in
       drive_as (λ effect. All Q effect.events) count core steps (all (last_event name (after_steps made core) ∷ []) (All-cons Q (last_event name (after_steps made core)) [] last (All-nil Q))) (λ _ _ _. all [] (All-nil Q))
 
@@ -194,5 +194,5 @@ module _ (name : List ℕ) (is_quiet : Bool) where
         let told = drive_while_up (λ made core. P core → All Q (steps_events made name is_quiet core)) (λ core is. All-nil Q)
         (λ made core up later is. All-append Q (step_events name is_quiet (drive_step core)) (steps_events made name is_quiet (drive_step core).core) (tells core up is) (later (keeps core up is)))
         count core steps up is in
-        drive_told Q count core steps told (last (after_steps (drive_made count core steps) core)))
+        drive_told Q count core steps told (last (after_steps (drive_length_within count core steps) core)))
         (λ _. All-cons Q (event.NotRunning name) [] down (All-nil Q))

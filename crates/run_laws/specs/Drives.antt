@@ -9,9 +9,9 @@ use Rattle.command_run.specs.CoreDrives.{rest_event, step_events}
 pub use Rattle.drive_laws.specs.Steps.{after_steps, rests}
 
 -- how many of so many steps a drive makes of a run that has done so many before: fewer where the core rests or the run has no step left
-abbrev pub drive_made : ℕ → CoreState → ℕ → ℕ
-drive_made zero core steps = 0
-drive_made (suc more) core steps = if rests core || steps == STEPS_MOST then 0 else suc (drive_made more (drive_step core).core (steps + 1))
+abbrev pub drive_length_within : ℕ → CoreState → ℕ → ℕ
+drive_length_within zero core steps = 0
+drive_length_within (suc more) core steps = if rests core || steps == STEPS_MOST then 0 else suc (drive_length_within more (drive_step core).core (steps + 1))
 
 -- what the first steps of the actors tell, one after the other
 unfoldable pub steps_events : ℕ → List ℕ → Bool → CoreState → List Event

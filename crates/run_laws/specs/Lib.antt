@@ -5,3 +5,4 @@ pub mod ClosedLinks
 pub mod CrashedCores
 pub mod Drives
 pub mod Reopenings
+pub mod Notes

@@ -29,43 +29,43 @@ ghost use Rattle.crash_recover.specs.Cores.{CoreState};
 ghost use Rattle.command_run.specs.NamedCores.{NamedCoreState};
 ghost use Rattle.link_commands.specs.NamedLinks.{NamedLink};
 ghost use Rattle.run_laws.specs.Reached.{AreReached, HandsInOrder};
-ghost use Rattle.command_run.specs.Stores.{IsHeld, Told, store_of};
+ghost use Rattle.command_run.specs.Stores.{IsHeld, StoreAnswers, store_of};
 ghost use Rattle.command_run.specs.Runs.{RunState, effect_of, run_of};
 
 /// Over a store that tells its images and doesn't fail, a run is a function of the images and the commands.
 pub fn images_and_commands()
-    ensures { (images : List (List ℕ × List ℕ)) (told : Told) (commands : List Command) → IsHeld (Some images) told
+    ensures { (images : List (List ℕ × List ℕ)) (told : StoreAnswers) (commands : List Command) → IsHeld (Some images) told
         → run_of told commands ≡ run_of (store_of images) commands }
 {}
 
 /// No run ends with a fault of the store but where the store fails.
 pub fn faults_alone()
-    ensures { (images : Option (List (List ℕ × List ℕ))) (told : Told) (commands : List Command) → IsHeld images told
+    ensures { (images : Option (List (List ℕ × List ℕ))) (told : StoreAnswers) (commands : List Command) → IsHeld images told
         → (run_of told commands).failed ≡ false }
 {}
 
 /// After each list of commands, and so after each front of a script, each link comes by moves from the start of its incarnation, and so
 /// does the link of each core, whatever the store tells.
-pub fn links_reached()
+pub fn links_are_reached()
     ensures command { (answer : ImageAnswer) (run : RunState) (command : Command) → IsRunnable command → AreReached run.objects → AreKept run.objects
         → AreReady run.objects → AreReached (effect_of answer run command).run.objects }
-    ensures run { (told : Told) (commands : List Command) → AreRunnable commands → AreReached (run_of told commands).last.objects }
+    ensures run { (told : StoreAnswers) (commands : List Command) → AreRunnable commands → AreReached (run_of told commands).last.objects }
 {}
 
 /// So each link of a run, and the link of each core, is sound after each front of a script.
 pub fn links_sound()
-    ensures links { (told : Told) (commands : List Command) (named : NamedLink) → AreRunnable commands
+    ensures links { (told : StoreAnswers) (commands : List Command) (named : NamedLink) → AreRunnable commands
         → Contains (run_of told commands).last.objects.links named → SoundLink (link_in named.bench) }
-    ensures cores { (told : Told) (commands : List Command) (named : NamedCoreState) → AreRunnable commands
+    ensures cores { (told : StoreAnswers) (commands : List Command) (named : NamedCoreState) → AreRunnable commands
         → Contains (run_of told commands).last.objects.cores named → IfSome named.core.bench (λ (bench : BenchState). SoundLink (link_in bench)) }
 {}
 
 /// Each link of a run, and the link of each core, hands over each message at most once and in order, and what each endpoint got from a
 /// sender is a front of what is due to it.
 pub fn links_in_order()
-    ensures links { (told : Told) (commands : List Command) (named : NamedLink) → AreRunnable commands
+    ensures links { (told : StoreAnswers) (commands : List Command) (named : NamedLink) → AreRunnable commands
         → Contains (run_of told commands).last.objects.links named → HandsInOrder (link_in named.bench) }
-    ensures cores { (told : Told) (commands : List Command) (named : NamedCoreState) → AreRunnable commands
+    ensures cores { (told : StoreAnswers) (commands : List Command) (named : NamedCoreState) → AreRunnable commands
         → Contains (run_of told commands).last.objects.cores named → IfSome named.core.bench (λ (bench : BenchState). HandsInOrder (link_in bench)) }
 {}
 
@@ -142,16 +142,16 @@ pub fn crashed_hands_none()
 
 /// After each list of commands the link of each core has the core's own callers in use, 0 at the host and 1 at the remote, no turn of it is the
 /// manager's, and it is in the incarnation of the core's life, live exactly while the core is up.
-pub fn cores_kept()
+pub fn cores_are_kept()
     ensures command { (answer : ImageAnswer) (run : RunState) (command : Command) → AreKept run.objects → AreKept (effect_of answer run command).run.objects }
-    ensures run { (told : Told) (commands : List Command) → AreKept (run_of told commands).last.objects }
+    ensures run { (told : StoreAnswers) (commands : List Command) → AreKept (run_of told commands).last.objects }
 {}
 
 /// After each list of commands the regions of each core are sound: at most 16, of at most 16 MiB together, each within the addresses, and no two meet.
 /// So what is known of loads over sound regions holds of the cores of runs.
 pub fn regions_sound()
     ensures command { (answer : ImageAnswer) (run : RunState) (command : Command) → HaveSoundRegions run.objects → HaveSoundRegions (effect_of answer run command).run.objects }
-    ensures run { (told : Told) (commands : List Command) → HaveSoundRegions (run_of told commands).last.objects }
+    ensures run { (told : StoreAnswers) (commands : List Command) → HaveSoundRegions (run_of told commands).last.objects }
 {}
 
 /// The actors of each core hold, while the core is up, what their calls give back, so that the next call of each may always begin, and have begun
@@ -159,5 +159,5 @@ pub fn regions_sound()
 pub fn cores_ready()
     ensures command { (answer : ImageAnswer) (run : RunState) (command : Command) → IsRunnable command → AreReached run.objects → AreKept run.objects
         → AreReady run.objects → AreReady (effect_of answer run command).run.objects }
-    ensures run { (told : Told) (commands : List Command) → AreRunnable commands → AreReady (run_of told commands).last.objects }
+    ensures run { (told : StoreAnswers) (commands : List Command) → AreRunnable commands → AreReady (run_of told commands).last.objects }
 {}

@@ -14,15 +14,15 @@ use Rattle.script_lang.specs.Runnable.{AreRunnable}
 use Rattle.script_lang.proofs.Runnable.{are_runnable}
 use Rattle.image_maker.specs.Demo.{core_commands, demo_commands, demo_text, first_sessions, number_at, reply_length, sample_channel, session_commands, session_core, session_image, worker_lines}
 use Rattle.image_maker.proofs.DemoSizes.{demo_is_said}
-use Rattle.script_run.specs.declared.demos.Accepted.{Accepted}
+use Rattle.script_run.specs.declared.demos.AcceptedCounts.{AcceptedCounts}
 use Rattle.script_run.specs.declared.demos.DemoFault.{DemoFault}
 use Rattle.script_run.specs.declared.demos.DemoFault.TheVariants as fault
 use Rattle.link_commands.specs.declared.stops.Stop.{Stop}
-use Rattle.command_run.specs.Stores.{answer_for, later_told, store_of}
+use Rattle.command_run.specs.Stores.{answer_for, later_answers, store_of}
 use Rattle.link_commands.specs.Logs.{LogState}
 use Rattle.command_run.specs.Outcomes.{HasRunEffect}
 use Rattle.command_run.specs.Runs.{ObjectsState, Run, RunState, asked_name, effect_of, new_run, run_from, run_of, run_on}
-use Rattle.script_run.specs.Demos.{accepted_from, accepted_sum, bare_effect, commands_output, counted_output, demo_output, drive_accepted, none_accepted}
+use Rattle.script_run.specs.Demos.{counts_from, accepted_sum, bare_effect, commands_output, counted_output, demo_output, drive_counts, no_counts}
 use Rattle.script_run.specs.DemoRuns.{IsCounted, IsDemoCount}
 use Rattle.command_run.proofs.RunSteps.{run_first, run_none}
 use Rattle.command_run.proofs.Shelves.{held_run}
@@ -40,31 +40,31 @@ module _ (state : RunState) (first : Command) (more : List Command) where
   stops : (why : Stop) → (bare_effect state first).ending ≡ Some why → (run_from (store_of []) state (first ∷ more)).ending ≡ Some why
   stops why is =
       ap (λ (run : Run). run.ending) (run_first (store_of []) state first more
-      ∙ ap (λ ending. run_on (bare_effect state first) ending (run_from (later_told (store_of [])) (bare_effect state first).run more)) is)
+      ∙ ap (λ ending. run_on (bare_effect state first) ending (run_from (later_answers (store_of [])) (bare_effect state first).run more)) is)
 
   pub goes_on : (bare_effect state first).ending ≡ None
       → (run_from (store_of []) state (first ∷ more)).ending ≡ (run_from (store_of []) (bare_effect state first).run more).ending
   goes_on is =
       ap (λ (run : Run). run.ending) (run_first (store_of []) state first more
-      ∙ ap (λ ending. run_on (bare_effect state first) ending (run_from (later_told (store_of [])) (bare_effect state first).run more)) is)
-      ∙ ap (λ (run : Run). run.ending) (held_run [] (later_told (store_of [])) (bare_effect state first).run more (λ number. refl))
+      ∙ ap (λ ending. run_on (bare_effect state first) ending (run_from (later_answers (store_of [])) (bare_effect state first).run more)) is)
+      ∙ ap (λ (run : Run). run.ending) (held_run [] (later_answers (store_of [])) (bare_effect state first).run more (λ number. refl))
 
-accepted_first : (state : RunState) (first : Command) (more : List Command) → accepted_from state (first ∷ more)
-    ≡ accepted_sum (drive_accepted (bare_effect state first).run.objects first) (accepted_from (bare_effect state first).run more)
-unfolding accepted_from
+accepted_first : (state : RunState) (first : Command) (more : List Command) → counts_from state (first ∷ more)
+    ≡ accepted_sum (drive_counts (bare_effect state first).run.objects first) (counts_from (bare_effect state first).run more)
+unfolding counts_from
 accepted_first state first more = refl
 
-accepted_none : (state : RunState) → accepted_from state [] ≡ none_accepted
-unfolding accepted_from
+accepted_none : (state : RunState) → counts_from state [] ≡ no_counts
+unfolding counts_from
 accepted_none state = refl
 
-none_first : (accepted : Accepted) → accepted ≡ accepted_sum none_accepted accepted
+none_first : (accepted : AcceptedCounts) → accepted ≡ accepted_sum no_counts accepted
 none_first accepted =
     let host : accepted.to_host ≡ 0 + accepted.to_host = omega arith in
     let remote : accepted.to_remote ≡ 0 + accepted.to_remote = omega arith in
     ap₂ (λ (h r : ℕ). record { to_host = h; to_remote = r }) host remote
 
-none_last : (accepted : Accepted) → accepted_sum accepted none_accepted ≡ accepted
+none_last : (accepted : AcceptedCounts) → accepted_sum accepted no_counts ≡ accepted
 none_last accepted =
     let host : accepted.to_host + 0 ≡ accepted.to_host = omega arith in
     let remote : accepted.to_remote + 0 ≡ accepted.to_remote = omega arith in
@@ -73,29 +73,29 @@ none_last accepted =
 count_assoc : (a b c : ℕ) → a + (b + c) ≡ (a + b) + c
 count_assoc a b c = omega arith
 
-sum_assoc : (a b c : Accepted) → accepted_sum a (accepted_sum b c) ≡ accepted_sum (accepted_sum a b) c
+sum_assoc : (a b c : AcceptedCounts) → accepted_sum a (accepted_sum b c) ≡ accepted_sum (accepted_sum a b) c
 sum_assoc a b c =
     ap₂ (λ (h r : ℕ). record { to_host = h; to_remote = r }) (count_assoc a.to_host b.to_host c.to_host) (count_assoc a.to_remote b.to_remote c.to_remote)
 
 -- no more messages than a book has room for
-pub record IsOfBooks (accepted : Accepted) : Type 0 where
+pub record IsOfBooks (accepted : AcceptedCounts) : Type 0 where
   pub to_host : accepted.to_host ≤ BOOK_MOST
   pub to_remote : accepted.to_remote ≤ BOOK_MOST
 
 -- so much was accepted before this state of a run, in which these commands are left
-pub record CountsSoFar (commands : List Command) (state : RunState) (accepted : Accepted) (left : List Command) : Type 0 where
+pub record CountsSoFar (commands : List Command) (state : RunState) (accepted : AcceptedCounts) (left : List Command) : Type 0 where
   pub ending : (run_of (store_of []) commands).ending ≡ (run_from (store_of []) state left).ending
-  pub counted : accepted_from new_run commands ≡ accepted_sum accepted (accepted_from state left)
+  pub counted : counts_from new_run commands ≡ accepted_sum accepted (counts_from state left)
   pub to_host : accepted.to_host + BOOK_MOST * length left ≤ BOOK_MOST * SCRIPT_LINES_MOST
   pub to_remote : accepted.to_remote + BOOK_MOST * length left ≤ BOOK_MOST * SCRIPT_LINES_MOST
 
 -- nothing is done
-pub counts_none : (commands : List Command) → length commands ≤ SCRIPT_LINES_MOST → CountsSoFar commands new_run none_accepted commands
-counts_none commands few = record { ending = refl; counted = none_first (accepted_from new_run commands); to_host = omega (arith, few); to_remote = omega (arith, few) }
+pub counts_none : (commands : List Command) → length commands ≤ SCRIPT_LINES_MOST → CountsSoFar commands new_run no_counts commands
+counts_none commands few = record { ending = refl; counted = none_first (counts_from new_run commands); to_host = omega (arith, few); to_remote = omega (arith, few) }
 
-module _ (commands : List Command) (state : RunState) (accepted : Accepted) where
+module _ (commands : List Command) (state : RunState) (accepted : AcceptedCounts) where
   -- nothing is left
-  pub counts_all : CountsSoFar commands state accepted [] → ((run_of (store_of []) commands).ending ≡ None) × (accepted ≡ accepted_from new_run commands)
+  pub counts_all : CountsSoFar commands state accepted [] → ((run_of (store_of []) commands).ending ≡ None) × (accepted ≡ counts_from new_run commands)
   counts_all so_far = (
     so_far.ending ∙ ap (λ (run : Run). run.ending) (run_none (store_of []) state),
     sym (so_far.counted ∙ ap (accepted_sum accepted) (accepted_none state) ∙ none_last accepted),
@@ -107,19 +107,19 @@ module _ (commands : List Command) (state : RunState) (accepted : Accepted) wher
     stops_first why is = so_far.ending ∙ stops state first more why is
 
     -- the run goes on after it
-    counts_first : (bare_effect state first).ending ≡ None → IsOfBooks (drive_accepted (bare_effect state first).run.objects first)
-        → CountsSoFar commands (bare_effect state first).run (accepted_sum accepted (drive_accepted (bare_effect state first).run.objects first)) more
+    counts_first : (bare_effect state first).ending ≡ None → IsOfBooks (drive_counts (bare_effect state first).run.objects first)
+        → CountsSoFar commands (bare_effect state first).run (accepted_sum accepted (drive_counts (bare_effect state first).run.objects first)) more
     counts_first goes few =
-        let driven = drive_accepted (bare_effect state first).run.objects first in
+        let driven = drive_counts (bare_effect state first).run.objects first in
         record {
           ending = so_far.ending ∙ goes_on state first more goes;
-          counted = so_far.counted ∙ ap (accepted_sum accepted) (accepted_first state first more) ∙ sum_assoc accepted driven (accepted_from (bare_effect state first).run more);
+          counted = so_far.counted ∙ ap (accepted_sum accepted) (accepted_first state first more) ∙ sum_assoc accepted driven (counts_from (bare_effect state first).run more);
           to_host = omega (arith, so_far.to_host, few.to_host);
           to_remote = omega (arith, so_far.to_remote, few.to_remote);
         }
 
 -- the same by what the command left in code
-module _ (commands : List Command) (objects after_objects : ObjectsState) (before after : LogState) (accepted : Accepted) (left : List Command) (first : Command) (more : List Command) (answer : Option Stop)
+module _ (commands : List Command) (objects after_objects : ObjectsState) (before after : LogState) (accepted : AcceptedCounts) (left : List Command) (first : Command) (more : List Command) (answer : Option Stop)
     (is : left ≡ first ∷ more) (so_far : CountsSoFar commands (record { objects = objects; steps = before.steps }) accepted left)
     (did : HasRunEffect (effect_of (Err no_image.Missing) (record { objects = objects; steps = before.steps }) first) after_objects before after answer) where
   first_did : HasRunEffect (bare_effect (record { objects = objects; steps = before.steps }) first) after_objects before after answer
@@ -133,32 +133,32 @@ module _ (commands : List Command) (objects after_objects : ObjectsState) (befor
       stops_first commands (record { objects = objects; steps = before.steps }) accepted first more first_so_far why (sym first_did.ending ∙ stopped)
 
   -- a number of 64 bits holds so many and those of one drive
-  pub sum_fits : (driven : Accepted) → IsOfBooks driven → (accepted.to_host + driven.to_host ≤ 2 ^ 64 - 1) × (accepted.to_remote + driven.to_remote ≤ 2 ^ 64 - 1)
+  pub sum_fits : (driven : AcceptedCounts) → IsOfBooks driven → (accepted.to_host + driven.to_host ≤ 2 ^ 64 - 1) × (accepted.to_remote + driven.to_remote ≤ 2 ^ 64 - 1)
   sum_fits driven few = (omega (arith, first_so_far.to_host, few.to_host), omega (arith, first_so_far.to_remote, few.to_remote))
 
-  pub counts_after : answer ≡ None → (steps : ℕ) → steps ≡ after.steps → IsOfBooks (drive_accepted after_objects first)
-      → CountsSoFar commands (record { objects = after_objects; steps = steps }) (accepted_sum accepted (drive_accepted after_objects first)) more
+  pub counts_after : answer ≡ None → (steps : ℕ) → steps ≡ after.steps → IsOfBooks (drive_counts after_objects first)
+      → CountsSoFar commands (record { objects = after_objects; steps = steps }) (accepted_sum accepted (drive_counts after_objects first)) more
   counts_after goes steps same few =
       let state : RunState = record { objects = objects; steps = before.steps } in
       let effect = bare_effect state first in
       let reached : effect.run ≡ record { objects = after_objects; steps = steps } =
       ap (λ (l : ObjectsState). record { objects = l; steps = effect.run.steps }) (sym first_did.objects)
       ∙ ap (λ (s : ℕ). record { objects = after_objects; steps = s }) (sym first_did.steps ∙ sym same) in
-      subst (λ (run : RunState). CountsSoFar commands run (accepted_sum accepted (drive_accepted run.objects first)) more) reached
+      subst (λ (run : RunState). CountsSoFar commands run (accepted_sum accepted (drive_counts run.objects first)) more) reached
       (counts_first commands state accepted first more first_so_far (sym first_did.ending ∙ goes)
-      (subst (λ (run : RunState). IsOfBooks (drive_accepted run.objects first)) (sym reached) few))
+      (subst (λ (run : RunState). IsOfBooks (drive_counts run.objects first)) (sym reached) few))
 
 -- the output of a demo, by the commands that its script says
 pub demo_is : (sessions : ℕ) (commands : List Command) → script_of (demo_text sessions) ≡ Ok commands
-    → demo_output sessions ≡ counted_output sessions (accepted_from new_run commands) (run_of (store_of []) commands).ending
+    → demo_output sessions ≡ counted_output sessions (counts_from new_run commands) (run_of (store_of []) commands).ending
 unfolding demo_output
 demo_is sessions commands says = ap (commands_output sessions) says
 
 -- what code counted of it, by the commands that its script says
-pub counted : (sessions : ℕ) (commands : List Command) (result : Result Accepted DemoFault) → script_of (demo_text sessions) ≡ Ok commands → IsCounted commands result → IsDemoCount sessions result
+pub counted : (sessions : ℕ) (commands : List Command) (result : Result AcceptedCounts DemoFault) → script_of (demo_text sessions) ≡ Ok commands → IsCounted commands result → IsDemoCount sessions result
 counted sessions commands (Ok accepted) says is =
-    demo_is sessions commands says ∙ ap (counted_output sessions (accepted_from new_run commands)) is.0 ∙ ap (λ (a : Accepted). counted_output sessions a None) (sym is.1)
-counted sessions commands (Err (fault.Stopped why)) says is = demo_is sessions commands says ∙ ap (counted_output sessions (accepted_from new_run commands)) is
+    demo_is sessions commands says ∙ ap (counted_output sessions (counts_from new_run commands)) is.0 ∙ ap (λ (a : AcceptedCounts). counted_output sessions a None) (sym is.1)
+counted sessions commands (Err (fault.Stopped why)) says is = demo_is sessions commands says ∙ ap (counted_output sessions (counts_from new_run commands)) is
 counted sessions commands (Err fault.NoMemory) says is = tt
 
 -- the commands that the script of a demo says are those of a demo

@@ -20,7 +20,7 @@ use Rattle.word_kinds.specs.declared.causes.Cause.TheVariants as cause
 use Rattle.script_lang.specs.declared.commands.Command.{Command}
 use Rattle.script_lang.specs.Grammar.{Refusal, bad_line, script_of}
 use Rattle.image_maker.specs.Demo.{demo_text}
-use Rattle.script_run.specs.declared.demos.Accepted.{Accepted}
+use Rattle.script_run.specs.declared.demos.AcceptedCounts.{AcceptedCounts}
 use Rattle.script_run.specs.declared.statuses.Status.{Status}
 use Rattle.script_run.specs.declared.statuses.Status.TheVariants as status
 use Rattle.script_run.specs.Statuses.{status_number, status_of}
@@ -28,13 +28,13 @@ use Rattle.link_commands.specs.declared.stops.Stop.{Stop}
 use Rattle.link_commands.specs.declared.stops.Stop.TheVariants as stop
 use Rattle.command_run.specs.declared.faults.OutputFault.{OutputFault}
 use Rattle.command_run.specs.declared.faults.OutputFault.TheVariants as output_fault
-use Rattle.command_run.specs.Stores.{IsHeld, IsTold, Told, store_of}
+use Rattle.command_run.specs.Stores.{IsHeld, IsTold, StoreAnswers, store_of}
 use Rattle.command_run.specs.Runs.{ObjectsState, new_run, run_of}
 use Rattle.script_run.specs.Outputs.{Form, other, run, check, demo, storm, audit, Output, audit_output, storm_output, fails_in, too_long_output, usage_output, run_output, script_output, stop_output, transcript_output, report_output, store_fault_output}
 use Rattle.script_run.specs.Reports.{check_report, report_of_fetch}
-use Rattle.script_run.specs.Demos.{accepted_from, commands_output, counted_output, demo_output}
-use Rattle.script_run.specs.Told.{RunWrites}
-use Rattle.command_run.proofs.Handed.{front_of_none}
+use Rattle.script_run.specs.Demos.{counts_from, commands_output, counted_output, demo_output}
+use Rattle.script_run.specs.Delivery.{RunWrites}
+use Rattle.command_run.proofs.HandedLines.{front_of_none}
 use Rattle.command_run.proofs.Shelves.{any_held, any_told, held_failed, held_run}
 use Rattle.script_run.specs.Endings.{AuditEnds, Devices, IsAsked, IsAuditOutput, IsReadWell, IsFaultOutput, IsOutput, IsCourse, IsCutOutput, IsFinal, IsRunCourse, IsRunOutput, IsReportOutput, IsScriptOutput, IsStatusCourse, IsWellRun, OfSource, SourceAsksNone, TextAsksNone, EndsWell, RunEnds, Writes, Ends}
 use Rattle.script_run.specs.Yards.{RunLeaves, StandsAs}
@@ -166,21 +166,21 @@ cut_same left = by_length (cases_lt (SCRIPT_MOST + 1) (length left))
     by_length (inr fits) = ap script_of (take_all (SCRIPT_MOST + 1) left fits)
 
 -- the output of the words `run`, by what the script says
-output_is : (told : Told) (bytes : List ℕ) → script_output told (script_of bytes) ≡ run_output told bytes
+output_is : (told : StoreAnswers) (bytes : List ℕ) → script_output told (script_of bytes) ≡ run_output told bytes
 unfolding run_output
 output_is told bytes = refl
 
 -- over a store that didn't fail, the output is that over its images alone
-said_same : (images : List (List ℕ × List ℕ)) (told : Told) (said : Result (List Command) Refusal) → IsHeld (Some images) told → script_output told said ≡ script_output (store_of images) said
+said_same : (images : List (List ℕ × List ℕ)) (told : StoreAnswers) (said : Result (List Command) Refusal) → IsHeld (Some images) told → script_output told said ≡ script_output (store_of images) said
 said_same images told (Ok commands) is = ap transcript_output (held_run images told new_run commands is)
 said_same images told (Err refusal) is = refl
 
-script_held : (images : Option (List (List ℕ × List ℕ))) (told : Told) (bytes : List ℕ) → IsHeld images told → IsScriptOutput images bytes (script_output told (script_of bytes))
+script_held : (images : Option (List (List ℕ × List ℕ))) (told : StoreAnswers) (bytes : List ℕ) → IsHeld images told → IsScriptOutput images bytes (script_output told (script_of bytes))
 script_held None told bytes is = (told, is, output_is told bytes)
 script_held (Some images) told bytes is = said_same images told (script_of bytes) is ∙ output_is (store_of images) bytes
 
 -- over a store that failed
-script_cut : (images : Option (List (List ℕ × List ℕ))) (told : Told) (bytes : List ℕ) → IsTold images told → fails_in told (script_of bytes) ≡ true
+script_cut : (images : Option (List (List ℕ × List ℕ))) (told : StoreAnswers) (bytes : List ℕ) → IsTold images told → fails_in told (script_of bytes) ≡ true
     → IsCutOutput images bytes (script_output told (script_of bytes))
 script_cut images told bytes is fails = record { told = told; is = is; fails = fails; written = output_is told bytes }
 
@@ -194,13 +194,13 @@ read_asks None bytes front none = absurd none
 read_asks (Some left) bytes front none = subst TextAsksNone (sym (read_same left bytes front)) none
 
 -- so its output is that of all of it
-read_held : (left : Option (List ℕ)) (images : Option (List (List ℕ × List ℕ))) (told : Told) (bytes : List ℕ) → IsFrontOf left (SCRIPT_MOST + 1) bytes → IsHeld images told
+read_held : (left : Option (List ℕ)) (images : Option (List (List ℕ × List ℕ))) (told : StoreAnswers) (bytes : List ℕ) → IsFrontOf left (SCRIPT_MOST + 1) bytes → IsHeld images told
     → IsRunOutput left images (script_output told (script_of bytes))
 read_held None images told bytes front is = (bytes, script_held images told bytes is)
 read_held (Some left) images told bytes front is =
     subst (λ (said : Result (List Command) Refusal). IsScriptOutput images left (script_output told said)) (sym (read_same left bytes front)) (script_held images told left is)
 
-read_cut : (left : Option (List ℕ)) (images : Option (List (List ℕ × List ℕ))) (told : Told) (bytes : List ℕ) → IsFrontOf left (SCRIPT_MOST + 1) bytes → IsTold images told
+read_cut : (left : Option (List ℕ)) (images : Option (List (List ℕ × List ℕ))) (told : StoreAnswers) (bytes : List ℕ) → IsFrontOf left (SCRIPT_MOST + 1) bytes → IsTold images told
     → fails_in told (script_of bytes) ≡ true → OfSource left (λ text. IsCutOutput images text (script_output told (script_of bytes)))
 read_cut None images told bytes front is fails = (bytes, script_cut images told bytes is fails)
 read_cut (Some left) images told bytes front is fails =
@@ -208,7 +208,7 @@ read_cut (Some left) images told bytes front is fails =
     subst (λ (said : Result (List Command) Refusal). IsCutOutput images left (script_output told said)) (sym same)
     (script_cut images told left is (subst (λ (said : Result (List Command) Refusal). fails_in told said ≡ true) same fails))
 
-module _ (before now : Devices) (told : Told) (bytes : List ℕ) (front : IsFrontOf before.left (SCRIPT_MOST + 1) bytes) (source : now.source_faults ≡ before.source_faults) where
+module _ (before now : Devices) (told : StoreAnswers) (bytes : List ℕ) (front : IsFrontOf before.left (SCRIPT_MOST + 1) bytes) (source : now.source_faults ≡ before.source_faults) where
   -- what was to be written
   run_well : IsWellRun before.images told before.store_faults now.store_faults → IsAsked run before (script_output told (script_of bytes)) × IsReadWell before now
   run_well is = (read_held before.left before.images told bytes front is.0, record { source = source; store = is.1 })
@@ -283,7 +283,7 @@ unaudited_ends bytes old before =
     record { output = some.0; is = some.1; written = (front_of_none old some.0.text, refl) }
 
 -- a store that didn't fail, by the status
-well_status : (ended : Status) (images : Option (List (List ℕ × List ℕ))) (told : Told) (failed : Bool) (was then : ℕ) → IsWellRun images told was then → IsStatusCourse ended images told failed was then
+well_status : (ended : Status) (images : Option (List (List ℕ × List ℕ))) (told : StoreAnswers) (failed : Bool) (was then : ℕ) → IsWellRun images told was then → IsStatusCourse ended images told failed was then
 well_status status.Done images told failed was then is = inl is
 well_status status.Unsound images told failed was then is = inl is
 well_status status.Usage images told failed was then is = inl is
@@ -295,7 +295,7 @@ well_status status.StepLimit images told failed was then is = inl is
 well_status status.StoreFault images told failed was then is = inl is
 
 -- a status with which a run ends where all was written
-final_status : (ended : Status) (images : Option (List (List ℕ × List ℕ))) (told : Told) (failed : Bool) (was then : ℕ) → IsFinal ended → IsRunCourse images told failed was then
+final_status : (ended : Status) (images : Option (List (List ℕ × List ℕ))) (told : StoreAnswers) (failed : Bool) (was then : ℕ) → IsFinal ended → IsRunCourse images told failed was then
     → IsStatusCourse ended images told failed was then
 final_status status.Done images told failed was then final is = is
 final_status status.Unsound images told failed was then final is = is
@@ -316,7 +316,7 @@ end_final true stop = tt
 end_final false stop = stop_final stop
 
 -- with such a status the yard stands for the state in which the run ends
-final_stands : (ended : Status) (told : Told) (commands : List Command) (yard : ObjectsState) (old new : Option (List ℕ)) → IsFinal ended → yard ≡ (run_of told commands).last.objects
+final_stands : (ended : Status) (told : StoreAnswers) (commands : List Command) (yard : ObjectsState) (old new : Option (List ℕ)) → IsFinal ended → yard ≡ (run_of told commands).last.objects
     → StandsAs ended told commands yard old new
 final_stands status.Done told commands yard old new final is = is
 final_stands status.Unsound told commands yard old new final is = is
@@ -409,7 +409,7 @@ is_store_fault status.StoreFault = true
 is_store_fault ended = false
 
 -- no run ends so whose store didn't fail
-held_well : (images : Option (List (List ℕ × List ℕ))) (told : Told) (said : Result (List Command) Refusal) → IsHeld images told → fails_in told said ≡ false
+held_well : (images : Option (List (List ℕ × List ℕ))) (told : StoreAnswers) (said : Result (List Command) Refusal) → IsHeld images told → fails_in told said ≡ false
 held_well images told (Ok commands) is = held_failed images told new_run commands is
 held_well images told (Err refusal) is = refl
 
@@ -417,12 +417,12 @@ stop_well : (stop : Option Stop) → is_store_fault (stop_output stop).status �
 stop_well None = refl
 stop_well (Some stop.StepLimit) = refl
 
-said_well : (told : Told) (said : Result (List Command) Refusal) → fails_in told said ≡ false → is_store_fault (script_output told said).status ≡ false
+said_well : (told : StoreAnswers) (said : Result (List Command) Refusal) → fails_in told said ≡ false → is_store_fault (script_output told said).status ≡ false
 said_well told (Ok commands) well =
     ap (λ (failed : Bool). is_store_fault (cond failed store_fault_output (stop_output (run_of told commands).ending)).status) well ∙ stop_well (run_of told commands).ending
 said_well told (Err refusal) well = refl
 
-over_well : (images : Option (List (List ℕ × List ℕ))) (told : Told) (bytes : List ℕ) (output : Output) → IsHeld images told → output ≡ run_output told bytes → is_store_fault output.status ≡ false
+over_well : (images : Option (List (List ℕ × List ℕ))) (told : StoreAnswers) (bytes : List ℕ) (output : Output) → IsHeld images told → output ≡ run_output told bytes → is_store_fault output.status ≡ false
 over_well images told bytes output held is =
     ap (λ (o : Output). is_store_fault o.status) (is ∙ sym (output_is told bytes)) ∙ said_well told (script_of bytes) (held_well images told (script_of bytes) held)
 
@@ -444,12 +444,12 @@ report_well None name output is = ap (λ (o : Output). is_store_fault o.status) 
 report_well (Some images) name output is = ap (λ (o : Output). is_store_fault o.status) is ∙ loads_well (check_report images name).loads
 
 -- nor a demo, which runs over an empty store
-counted_well : (sessions : ℕ) (accepted : Accepted) (stop : Option Stop) → is_store_fault (counted_output sessions accepted stop).status ≡ false
+counted_well : (sessions : ℕ) (accepted : AcceptedCounts) (stop : Option Stop) → is_store_fault (counted_output sessions accepted stop).status ≡ false
 counted_well sessions accepted None = refl
 counted_well sessions accepted (Some why) = stop_well (Some why)
 
 said_demo_well : (sessions : ℕ) (said : Result (List Command) Refusal) → is_store_fault (commands_output sessions said).status ≡ false
-said_demo_well sessions (Ok commands) = counted_well sessions (accepted_from new_run commands) (run_of (store_of []) commands).ending
+said_demo_well sessions (Ok commands) = counted_well sessions (counts_from new_run commands) (run_of (store_of []) commands).ending
 said_demo_well sessions (Err refusal) = refl
 
 demo_well : (sessions : ℕ) → is_store_fault (demo_output sessions).status ≡ false

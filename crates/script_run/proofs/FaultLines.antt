@@ -10,7 +10,7 @@ use Rattle.command_run.specs.declared.faults.OutputFault.TheVariants as output_f
 use Rattle.script_run.specs.declared.statuses.Status.{Status}
 use Rattle.script_run.specs.declared.statuses.Status.TheVariants as status
 use Rattle.script_run.specs.Outputs.{Output, read_fault_output, store_fault_output}
-use Rattle.script_run.specs.Told.{EndsRun}
+use Rattle.script_run.specs.Delivery.{EndsRun}
 
 -- of the store
 pub store_fault_line : store_fault_output ≡ record { status = status.StoreFault; text = codes "* store fault\n" }

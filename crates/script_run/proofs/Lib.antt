@@ -4,5 +4,5 @@ pub mod FaultLines
 pub mod SoFar
 pub mod FetchedReports
 pub mod Matches
-pub mod Accepted
+pub mod WordForms
 pub mod DemoSums

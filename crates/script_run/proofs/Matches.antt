@@ -10,7 +10,7 @@ use Rattle.clap.specs.Walk.{Held, Rule, Step, Text, Walk, after_step, all_of, fi
 use Rattle.clap.specs.declared.builder.range.ValueRange.{ValueRange}
 use Rattle.clap.specs.Simple.{App, Shape, built, entered, matches_of, new_app, new_rule, on_top, with_rule}
 use Rattle.clap.specs.Takes.{entered_passes, level_passes, other_passes, settle_passes, step_passes, takes, turn_passes, value_passes, walk_passes}
-use Rattle.script_run.specs.Asked.{begins_with_dash, some_words}
+use Rattle.script_run.specs.Requests.{begins_with_dash, some_words}
 
 abbrev pub job : Rule
 job = new_rule (codes "JOB")

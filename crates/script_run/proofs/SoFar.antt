@@ -14,16 +14,16 @@ use Rattle.link_commands.specs.declared.stops.Stop.{Stop}
 use Rattle.command_run.specs.declared.faults.OutputFault.{OutputFault}
 use Rattle.command_run.specs.declared.faults.OutputFault.TheVariants as output_fault
 use Rattle.rp_io.specs.declared.faults.NoImage.TheVariants as no_image
-use Rattle.command_run.specs.Stores.{IsHeld, IsShelf, Shelf, Told, answer_for}
+use Rattle.command_run.specs.Stores.{IsHeld, IsShelf, Shelf, StoreAnswers, answer_for}
 use Rattle.command_run.specs.Runs.{ObjectsState, RunEffect, RunState, Run, asked_name, effect_of, line_effect, run_from, run_of, new_run}
 use Rattle.script_run.specs.Outputs.{Output, end_output, stop_output, store_fault_output, transcript_output}
 use Rattle.script_run.specs.Endings.{IsFailedRun, IsWellRun}
 use Rattle.link_commands.specs.Logs.{Hands, KeepsLess, LogState}
 use Rattle.command_run.specs.Outcomes.{HandsRunEffect, KeepsLast}
 use Rattle.command_run.specs.Fetches.{DidTold, IsCutCommand, IsToldCut, drive_line}
-use Rattle.script_run.specs.Told.{AnswersStatus, EndsRun, IsResultCourse, RunWrites, StandsFor, Tells}
+use Rattle.script_run.specs.Delivery.{AnswersStatus, EndsRun, IsResultCourse, RunWrites, StandsFor, Tells}
 use Rattle.script_run.specs.Yards.{StandsInDrive, run_to_drive}
-use Rattle.command_run.proofs.Handed.{appends_more, appends_same, hands_nothing, hands_kept, hands_more, hands_front, hands_front_kept, front_of_all}
+use Rattle.command_run.proofs.HandedLines.{appends_more, appends_same, hands_nothing, hands_kept, hands_more, hands_front, hands_front_kept, front_of_all}
 use Rattle.link_commands.proofs.Transcripts.{transcript-append}
 use Rattle.command_run.proofs.RunSteps.{behind, effect_over, first_told, left_at, run_behind, run_fails, run_none, run_rest}
 use Rattle.command_run.proofs.Shelves.{AreShelves, any_held, any_told, fault_next, fault_told, shelf_of, shelves_more, then_held, then_told, told_more, told_then}
@@ -35,14 +35,14 @@ text_behind events run =
     ∙ append_assoc (transcript events) (transcript run.events) (end_output run).text
 
 -- what was told from the start is kept or handed on, over what the store told, and the rest of the run follows; so it would with any commands behind those that are done
-pub record SoFar (images : Option (List (List ℕ × List ℕ))) (commands left : List Command) (from now : Option (List ℕ)) (lines : List ℕ) (rest : Told → List Command → Run) : Type 0 where
+pub record SoFar (images : Option (List (List ℕ × List ℕ))) (commands left : List Command) (from now : Option (List ℕ)) (lines : List ℕ) (rest : StoreAnswers → List Command → Run) : Type 0 where
   pub done : List Command
   pub all : commands ≡ done ++ left
   pub events : List Event
   pub shelves : List Shelf
   pub are : AreShelves images shelves
   pub hands : Hands from [] now lines (transcript events)
-  pub run : (later : Told) (more : List Command) → run_of (told_then shelves later) (done ++ more) ≡ behind events (rest later more)
+  pub run : (later : StoreAnswers) (more : List Command) → run_of (told_then shelves later) (done ++ more) ≡ behind events (rest later more)
 
 -- what is kept of a drive, where other events were told before it
 keeps_behind : (before : List Event) (first second : ℕ → List Event) (count : ℕ) (told : List Event) (lines : List ℕ) → ((n : ℕ) → first n ≡ before ++ second n)
@@ -81,9 +81,9 @@ last_text rest none = ap (λ (events : List Event). transcript events ++ (end_ou
 
 module _ (images : Option (List (List ℕ × List ℕ))) (commands left : List Command) (from now : Option (List ℕ)) (lines : List ℕ) where
   -- the rest told by these events and what follows them
-  told_events : (rest next : Told → List Command → Run) (first : Command) (behind_it : List Command) (shelf : Shelf) (events : List Event) (new : Option (List ℕ)) (kept : List ℕ)
+  told_events : (rest next : StoreAnswers → List Command → Run) (first : Command) (behind_it : List Command) (shelf : Shelf) (events : List Event) (new : Option (List ℕ)) (kept : List ℕ)
       → SoFar images commands left from now lines rest → left ≡ first ∷ behind_it → IsShelf images shelf
-      → ((later : Told) (more : List Command) → rest (first_told (Some shelf) later) (first ∷ more) ≡ behind events (next later more))
+      → ((later : StoreAnswers) (more : List Command) → rest (first_told (Some shelf) later) (first ∷ more) ≡ behind events (next later more))
       → Hands now lines new kept (transcript events) → SoFar images commands behind_it from new kept next
   told_events rest next first behind_it shelf events new kept so_far next_is is told hands = record {
     done = so_far.done ++ first ∷ [];
@@ -93,7 +93,7 @@ module _ (images : Option (List (List ℕ × List ℕ))) (commands left : List C
     are = shelves_more images so_far.shelves shelf so_far.are is;
     hands = subst (λ bytes. Hands from [] new kept bytes) (sym (transcript-append so_far.events events))
         (hands_more from now new [] lines kept (transcript so_far.events) (transcript events) so_far.hands hands);
-    run = λ later more. ap (λ (t : Told). run_of t ((so_far.done ++ first ∷ []) ++ more)) (told_more so_far.shelves shelf later)
+    run = λ later more. ap (λ (t : StoreAnswers). run_of t ((so_far.done ++ first ∷ []) ++ more)) (told_more so_far.shelves shelf later)
         ∙ ap (λ (c : List Command). run_of (told_then so_far.shelves (first_told (Some shelf) later)) c) (append_assoc so_far.done (first ∷ []) more)
         ∙ so_far.run (first_told (Some shelf) later) (first ∷ more)
         ∙ ap (behind so_far.events) (told later more) ∙ behind_twice so_far.events events (next later more);
@@ -123,7 +123,7 @@ module _ (images : Option (List (List ℕ × List ℕ))) (commands left : List C
         (so_far_told new after.lines (subst (λ (bytes : List ℕ). Hands now bytes new after.lines (transcript told_first.events)) kept found.hands)))
 
   -- what is kept is handed on, all of it or nothing
-  pub so_far_handed : (rest : Told → List Command → Run) (new : Option (List ℕ)) (kept : List ℕ) → SoFar images commands left from now lines rest → Hands now lines new kept []
+  pub so_far_handed : (rest : StoreAnswers → List Command → Run) (new : Option (List ℕ)) (kept : List ℕ) → SoFar images commands left from now lines rest → Hands now lines new kept []
       → SoFar images commands left from new kept rest
   so_far_handed rest new kept so_far handed = record {
     done = so_far.done;
@@ -154,13 +154,13 @@ module _ (images : Option (List (List ℕ × List ℕ))) (commands left : List C
       (subst (λ b. AppendsFront from new b) whole (hands_front from now new [] lines bytes text hands tells.0), tells.1 ∙ same)
 
   -- what is left where the run has ended, or where its last lines were cut off
-  stands_end : (result : Result Status OutputFault) (told : Told) (yard : ObjectsState) (new : Option (List ℕ)) (before after : ℕ) → yard ≡ (run_of told commands).last.objects
+  stands_end : (result : Result Status OutputFault) (told : StoreAnswers) (yard : ObjectsState) (new : Option (List ℕ)) (before after : ℕ) → yard ≡ (run_of told commands).last.objects
       → Tells result (transcript_output (run_of told commands)).text from new before after → StandsFor result told commands yard from new
   stands_end (Ok ended) told yard new before after is tells = is
   stands_end (Err output_fault.Failed) told yard new before after is tells = inl (record { done = commands; more = []; are = sym (append-nil commands); is = is; front = tells.0 })
   stands_end (Err output_fault.NoMemory) told yard new before after is tells = tt
 
-  module _ (rest : Told → List Command → Run) (so_far : SoFar images commands left from now lines rest) (later : Told) where
+  module _ (rest : StoreAnswers → List Command → Run) (so_far : SoFar images commands left from now lines rest) (later : StoreAnswers) where
     -- the run of the whole, by the events so far
     run_all : run_of (told_then so_far.shelves later) commands ≡ behind so_far.events (rest later left)
     run_all = ap (run_of (told_then so_far.shelves later)) so_far.all ∙ so_far.run later left
@@ -190,26 +190,26 @@ module _ (images : Option (List (List ℕ × List ℕ))) (commands left : List C
         }
 
   -- a store that didn't fail
-  well : (result : Result Status OutputFault) (told : Told) (was then : ℕ) → IsWellRun images told was then → IsResultCourse result images told commands was then
+  well : (result : Result Status OutputFault) (told : StoreAnswers) (was then : ℕ) → IsWellRun images told was then → IsResultCourse result images told commands was then
   well (Ok ended) told was then is = inl is
   well (Err output_fault.Failed) told was then is = inl is
   well (Err output_fault.NoMemory) told was then is = is
 
   -- a store that failed
-  cut : (result : Result Status OutputFault) (told : Told) (was then : ℕ) → result ≢ Err output_fault.NoMemory → IsFailedRun images told (run_of told commands).failed was then
+  cut : (result : Result Status OutputFault) (told : StoreAnswers) (was then : ℕ) → result ≢ Err output_fault.NoMemory → IsFailedRun images told (run_of told commands).failed was then
       → IsResultCourse result images told commands was then
   cut (Ok ended) told was then found is = inr is
   cut (Err output_fault.Failed) told was then found is = inr is
   cut (Err output_fault.NoMemory) told was then found is = absurd (found refl)
 
   -- a store that didn't fail so far, and of which nothing more is asked
-  pub so_far_held : (rest : Told → List Command → Run) (so_far : SoFar images commands left from now lines rest) → IsHeld images (told_then so_far.shelves (any_told images))
+  pub so_far_held : (rest : StoreAnswers → List Command → Run) (so_far : SoFar images commands left from now lines rest) → IsHeld images (told_then so_far.shelves (any_told images))
   so_far_held rest so_far = then_held images (any_told images) so_far.shelves so_far.are (any_held images)
 
   -- the run has ended without a fault of the store
-  pub so_far_ends : (rest : Told → List Command → Run) (result : Result Status OutputFault) (stop : Option Stop) (yard : ObjectsState) (new : Option (List ℕ)) (faults before after was then : ℕ)
-      → SoFar images commands left from now lines rest → ((later : Told) → (rest later left).events ≡ []) → ((later : Told) → end_output (rest later left) ≡ stop_output stop)
-      → ((later : Told) → yard ≡ (rest later left).last.objects) → before ≡ faults → then ≡ was
+  pub so_far_ends : (rest : StoreAnswers → List Command → Run) (result : Result Status OutputFault) (stop : Option Stop) (yard : ObjectsState) (new : Option (List ℕ)) (faults before after was then : ℕ)
+      → SoFar images commands left from now lines rest → ((later : StoreAnswers) → (rest later left).events ≡ []) → ((later : StoreAnswers) → end_output (rest later left) ≡ stop_output stop)
+      → ((later : StoreAnswers) → yard ≡ (rest later left).last.objects) → before ≡ faults → then ≡ was
       → EndsRun result (stop_output stop) lines now new before after → RunWrites images commands yard result from new faults after was then
   so_far_ends rest result stop yard new faults before after was then so_far none last is same still ends =
       ends_by rest so_far (any_told images) result yard new faults before after was then (none (any_told images)) (is (any_told images)) same
@@ -222,7 +222,7 @@ module _ (images : Option (List (List ℕ × List ℕ))) (commands left : List C
       → before ≡ faults → result ≢ Err output_fault.NoMemory → Rose was then
       → EndsRun result store_fault_output lines now new before after → RunWrites images commands yard result from new faults after was then
   so_far_fails state first more name result yard new faults before after was then so_far is asks stays same found rose ends =
-      let rest : Told → List Command → Run = λ later commands. run_from later state commands in
+      let rest : StoreAnswers → List Command → Run = λ later commands. run_from later state commands in
       let told = told_then so_far.shelves (fault_next images) in
       let stopped : rest (fault_next images) left ≡ record { events = []; last = state; ending = None; failed = true } =
       ap (run_from (fault_next images) state) is ∙ run_fails (any_told images) state first more name asks in
@@ -235,7 +235,7 @@ module _ (images : Option (List (List ℕ × List ℕ))) (commands left : List C
       ))
 
   -- memory ran out, and no device failed
-  pub so_far_no_memory : (rest : Told → List Command → Run) (yard : ObjectsState) (new : Option (List ℕ)) (before after was then : ℕ) → SoFar images commands left from now lines rest → AppendsFront now new lines
+  pub so_far_no_memory : (rest : StoreAnswers → List Command → Run) (yard : ObjectsState) (new : Option (List ℕ)) (before after was then : ℕ) → SoFar images commands left from now lines rest → AppendsFront now new lines
       → after ≡ before → then ≡ was → RunWrites images commands yard (Err output_fault.NoMemory) from new before after was then
   so_far_no_memory rest yard new before after was then so_far front same still = record {
     told = told_then so_far.shelves (any_told images);
@@ -254,7 +254,7 @@ module _ (images : Option (List (List ℕ × List ℕ))) (commands left : List C
   pub so_far_write_fault : (state : RunState) (new : Option (List ℕ)) (before after was then : ℕ) → SoFar images commands left from now lines (λ later rest. run_from later state rest)
       → AppendsFront now new lines → Rose before after → then ≡ was → RunWrites images commands state.objects (Err output_fault.Failed) from new before after was then
   so_far_write_fault state new before after was then so_far front rose still =
-      let rest : Told → List Command → Run = λ later commands. run_from later state commands in
+      let rest : StoreAnswers → List Command → Run = λ later commands. run_from later state commands in
       let later = any_told images in
       let told = told_then so_far.shelves later in
       let ended = run_done rest so_far later ∙ ap (behind so_far.events) (run_none later state) in
@@ -276,7 +276,7 @@ module _ (images : Option (List (List ℕ × List ℕ))) (commands left : List C
       }
 
 -- a run whose last command tells the last of it
-rest_last : (effect : RunEffect) (ending : Option Stop) (later : Told)
+rest_last : (effect : RunEffect) (ending : Option Stop) (later : StoreAnswers)
     → ((run_rest effect ending (run_from later effect.run [])).last ≡ effect.run) × ((run_rest effect ending (run_from later effect.run [])).events ≡ [])
 rest_last effect None later = (ap (λ (run : Run). run.last) (run_none later effect.run), ap (λ (run : Run). run.events) (run_none later effect.run))
 rest_last effect (Some why) later = (refl, refl)
@@ -319,7 +319,7 @@ module _ (images : Option (List (List ℕ × List ℕ))) (commands : List Comman
   abbrev lines_at : List ℕ
   lines_at = before.lines ++ transcript told_at.events
 
-  abbrev rest_at : Told → List Command → Run
+  abbrev rest_at : StoreAnswers → List Command → Run
   rest_at later rest = run_rest told_at told_at.ending (run_from later told_at.run rest)
 
   so_far_kept : SoFar images commands more_at from now lines_at rest_at
@@ -329,14 +329,14 @@ module _ (images : Option (List (List ℕ × List ℕ))) (commands : List Comman
 
   module _ (new : Option (List ℕ)) (yard : ObjectsState) (cut : IsCutCommand state_at first yard before now new) where
     -- what the store tells at this command and later
-    abbrev later_here : Told
+    abbrev later_here : StoreAnswers
     later_here = first_told (Some any_shelf.0) (any_told images)
 
     held_here : IsHeld images later_here
     held_here zero = any_shelf.1
     held_here (suc number) = any_held images number
 
-    abbrev told_here : Told
+    abbrev told_here : StoreAnswers
     told_here = told_then so_far.shelves later_here
 
     -- the whole run, by what the command at this place tells

@@ -17,7 +17,7 @@ use Rattle.script_run.specs.declared.statuses.Status.TheVariants as status
 use Rattle.script_lang.specs.declared.commands.Command.{Command}
 use Rattle.script_lang.specs.Grammar.{Refusal, script_of}
 use Rattle.command_run.specs.Runs.{AsksNone, new_run}
-use Rattle.command_run.specs.Stores.{IsHeld, IsTold, Told, store_of}
+use Rattle.command_run.specs.Stores.{IsHeld, IsTold, StoreAnswers, store_of}
 use Rattle.storm_run.specs.declared.plans.Plan.{Plan}
 use Rattle.script_run.specs.Outputs.{Form, other, run, check, demo, storm, audit, Output, usage_output, run_output, script_output, fails_in, report_output, storm_output, audit_output, too_long_output, read_fault_output, store_fault_output}
 use Rattle.script_run.specs.Reports.{report_of_fetch, check_report}
@@ -59,25 +59,25 @@ pub record IsReadWell (before now : Devices) : Type 0 where
   pub store : now.store_faults ≡ before.store_faults
 
 -- the store told what it has, and failed at no command
-abbrev pub IsWellRun : Option (List (List ℕ × List ℕ)) → Told → ℕ → ℕ → Type 0
+abbrev pub IsWellRun : Option (List (List ℕ × List ℕ)) → StoreAnswers → ℕ → ℕ → Type 0
 IsWellRun images told before now = IsHeld images told × (now ≡ before)
 
 -- the store failed, and so ended the run
-abbrev pub IsFailedRun : Option (List (List ℕ × List ℕ)) → Told → Bool → ℕ → ℕ → Type 0
+abbrev pub IsFailedRun : Option (List (List ℕ × List ℕ)) → StoreAnswers → Bool → ℕ → ℕ → Type 0
 IsFailedRun images told failed before now = IsTold images told × (failed ≡ true) × Rose before now
 
 -- one or the other
-abbrev pub IsRunCourse : Option (List (List ℕ × List ℕ)) → Told → Bool → ℕ → ℕ → Type 0
+abbrev pub IsRunCourse : Option (List (List ℕ × List ℕ)) → StoreAnswers → Bool → ℕ → ℕ → Type 0
 IsRunCourse images told failed before now = IsWellRun images told before now ⊎ IsFailedRun images told failed before now
 
 -- the output of a script over a store that didn't fail; of one that doesn't tell its images, that over some answers
 abbrev pub IsScriptOutput : Option (List (List ℕ × List ℕ)) → List ℕ → Output → Type 0
-IsScriptOutput None bytes output = (told : Told) × IsHeld None told × (output ≡ run_output told bytes)
+IsScriptOutput None bytes output = (told : StoreAnswers) × IsHeld None told × (output ≡ run_output told bytes)
 IsScriptOutput (Some images) bytes output = output ≡ run_output (store_of images) bytes
 
 -- the output of a script whose run ends where the store fails
 pub record IsCutOutput (images : Option (List (List ℕ × List ℕ))) (bytes : List ℕ) (output : Output) : Type 0 where
-  pub told : Told
+  pub told : StoreAnswers
   pub is : IsTold images told
   pub fails : fails_in told (script_of bytes) ≡ true
   pub written : output ≡ run_output told bytes
@@ -159,13 +159,13 @@ IsFinal status.NoMemory = ⊥
 IsFinal ended = Unit {0}
 
 -- what the store did in a run, by the status: memory that ran out is no fault of it
-abbrev pub IsStatusCourse : Status → Option (List (List ℕ × List ℕ)) → Told → Bool → ℕ → ℕ → Type 0
+abbrev pub IsStatusCourse : Status → Option (List (List ℕ × List ℕ)) → StoreAnswers → Bool → ℕ → ℕ → Type 0
 IsStatusCourse status.NoMemory images told failed before now = IsWellRun images told before now
 IsStatusCourse ended images told failed before now = IsRunCourse images told failed before now
 
 -- a script is run over what the store tells, or refused, and its output written
 pub record RunEnds (ended : Status) (images : Option (List (List ℕ × List ℕ))) (said : Result (List Command) Refusal) (old new : Option (List ℕ)) (before now was then : ℕ) : Type 0 where
-  pub told : Told
+  pub told : StoreAnswers
   pub course : IsStatusCourse ended images told (fails_in told said) was then
   pub written : Writes ended (script_output told said) old new before now
 

@@ -1,6 +1,6 @@
 pub mod Statuses
 pub mod Reports
-pub mod Asked
+pub mod Requests
 pub mod Outputs
 pub mod Demos
 pub mod DemoRuns
@@ -8,4 +8,4 @@ pub mod Endings
 pub mod Yards
 pub mod Programs
 pub mod ImageReports
-pub mod Told
+pub mod Delivery

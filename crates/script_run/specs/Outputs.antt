@@ -14,7 +14,7 @@ use Rattle.script_run.specs.declared.statuses.Status.{Status}
 use Rattle.script_run.specs.declared.statuses.Status.TheVariants as status
 use Rattle.link_commands.specs.declared.stops.Stop.{Stop}
 use Rattle.link_commands.specs.declared.stops.Stop.TheVariants as stop
-use Rattle.command_run.specs.Stores.{Told}
+use Rattle.command_run.specs.Stores.{StoreAnswers}
 use Rattle.command_run.specs.Runs.{Run, run_of}
 use Rattle.image_report.specs.Reports.{Report}
 use Rattle.rp_base.specs.Limits.{is_ring_size}
@@ -116,16 +116,16 @@ abbrev pub refusal_output : Refusal → Output
 refusal_output refusal = record { status = status.Refused; text = report_text (notice.Refused refusal.line refusal.cause ∷ []) }
 
 -- the transcript of a script, or its refusal
-abbrev pub script_output : Told → Result (List Command) Refusal → Output
+abbrev pub script_output : StoreAnswers → Result (List Command) Refusal → Output
 script_output told (Ok commands) = transcript_output (run_of told commands)
 script_output told (Err refusal) = refusal_output refusal
 
 -- the output of the words `run`, by what the store tells and the bytes of the script
-unfoldable pub run_output : Told → List ℕ → Output
+unfoldable pub run_output : StoreAnswers → List ℕ → Output
 run_output told bytes = script_output told (script_of bytes)
 
 -- whether the store fails while a script runs
-abbrev pub fails_in : Told → Result (List Command) Refusal → Bool
+abbrev pub fails_in : StoreAnswers → Result (List Command) Refusal → Bool
 fails_in told (Ok commands) = (run_of told commands).failed
 fails_in told (Err refusal) = false
 

@@ -6,7 +6,7 @@ use Rattle.script_lang.specs.declared.commands.Command.{Command}
 use Rattle.script_lang.specs.declared.commands.Command.TheVariants as command
 use Rattle.script_lang.specs.Grammar.{Refusal, script_of}
 use Rattle.link_commands.specs.Acts.{line_of}
-use Rattle.command_run.specs.Stores.{Told}
+use Rattle.command_run.specs.Stores.{StoreAnswers}
 use Rattle.command_run.specs.Fetches.{drive_line}
 use Rattle.command_run.specs.Outcomes.{IsCutDrive}
 use Rattle.command_run.specs.Runs.{ObjectsState, Run, run_of}
@@ -16,7 +16,7 @@ use Rattle.script_run.specs.Outputs.{Form, other, run, check, demo, storm, audit
 use Rattle.script_run.specs.Endings.{Devices, OfSource, RunEnds}
 
 -- the yard stands for the state behind the first of the commands, and nothing is written of what the later ones tell
-pub record StandsBehind (told : Told) (commands : List Command) (yard : ObjectsState) (old new : Option (List ℕ)) : Type 0 where
+pub record StandsBehind (told : StoreAnswers) (commands : List Command) (yard : ObjectsState) (old new : Option (List ℕ)) : Type 0 where
   pub done : List Command
   pub more : List Command
   pub are : commands ≡ done ++ more
@@ -24,11 +24,11 @@ pub record StandsBehind (told : Told) (commands : List Command) (yard : ObjectsS
   pub front : AppendsFront old new (transcript_output (run_of told done)).text
 
 -- the run of these commands and a drive of so many steps behind them
-abbrev pub run_to_drive : Told → List Command → List ℕ → ℕ → Run
+abbrev pub run_to_drive : StoreAnswers → List Command → List ℕ → ℕ → Run
 run_to_drive told done name steps = run_of told (done ++ command.Drive name steps ∷ [])
 
 -- the yard stands for the state behind the first of the commands and some steps of the drive that is next, and nothing is written of what is told later; where the sink failed, less than a piece was kept beside what the last 1,024 of these steps, or one event, told
-pub record StandsInDrive (told : Told) (commands : List Command) (yard : ObjectsState) (old new : Option (List ℕ)) : Type 0 where
+pub record StandsInDrive (told : StoreAnswers) (commands : List Command) (yard : ObjectsState) (old new : Option (List ℕ)) : Type 0 where
   pub done : List Command
   pub next : Command
   pub name : List ℕ
@@ -39,7 +39,7 @@ pub record StandsInDrive (told : Told) (commands : List Command) (yard : Objects
   pub cut : IsCutDrive ObjectsState (λ steps. (run_to_drive told done name steps).last.objects) (λ steps. (run_to_drive told done name steps).events) count yard [] old new
 
 -- the yard of a run by the status with which it ends: it stands for the state in which the run ends, so for that before the command for which the store failed; where the sink failed, for one that the run had, of which no later event is written; where memory ran out nothing is said of it
-abbrev pub StandsAs : Status → Told → List Command → ObjectsState → Option (List ℕ) → Option (List ℕ) → Type 0
+abbrev pub StandsAs : Status → StoreAnswers → List Command → ObjectsState → Option (List ℕ) → Option (List ℕ) → Type 0
 StandsAs status.WriteFault told commands yard old new = StandsBehind told commands yard old new ⊎ StandsInDrive told commands yard old new
 StandsAs status.NoMemory told commands yard old new = Unit {0}
 StandsAs ended told commands yard old new = yard ≡ (run_of told commands).last.objects

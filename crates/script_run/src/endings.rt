@@ -2,7 +2,7 @@ ghost use Rattle.std.specs.Prelude.{◌≢◌};
 ghost use Rattle.journal.specs.Notices.{report_text};
 ghost use Rattle.script_run.specs.declared.statuses.Status.TheVariants as ended;
 ghost use Rattle.script_run.specs.Endings.{IsFinal, Writes};
-ghost use Rattle.script_run.specs.Told.{Tells};
+ghost use Rattle.script_run.specs.Delivery.{Tells};
 
 use crate::statuses::Status;
 use command_run::OutputFault;

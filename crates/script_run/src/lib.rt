@@ -15,5 +15,5 @@ mod yards;
 pub use program::{run_program, run_script};
 pub use statuses::Status;
 pub use storms::run_storm;
-pub use words::Asked;
+pub use words::Request;
 pub use yards::Yard;

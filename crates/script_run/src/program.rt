@@ -19,7 +19,7 @@ use crate::reports::check;
 use crate::runs::run_commands;
 use crate::statuses::Status;
 use crate::storms::run_plan;
-use crate::words::{Asked, read_words};
+use crate::words::{Request, read_words};
 use crate::yards::Yard;
 use journal::Notice;
 use rp_base::SCRIPT_MOST;
@@ -95,12 +95,12 @@ fn answer<R: Threads + Wait + Sync, S: Source, F: FirmwareStore, K: Sink>(
         return Status::NoMemory;
     };
     match asked {
-        Asked::Run => run_text(alloc, script, store, yard, out),
-        Asked::Check(word, name) => check(alloc, word, name, store, out),
-        Asked::Demo(sessions) => demo(alloc, sessions, out),
-        Asked::Storm(plan) => run_plan(rt, alloc, &plan, &FreeGate, out),
-        Asked::Audit => audit_text(alloc, script, out),
-        Asked::Other => end_with(alloc, &[Notice::Usage], Status::Usage, out),
+        Request::Run => run_text(alloc, script, store, yard, out),
+        Request::Check(word, name) => check(alloc, word, name, store, out),
+        Request::Demo(sessions) => demo(alloc, sessions, out),
+        Request::Storm(plan) => run_plan(rt, alloc, &plan, &FreeGate, out),
+        Request::Audit => audit_text(alloc, script, out),
+        Request::Other => end_with(alloc, &[Notice::Usage], Status::Usage, out),
     }
 }
 
@@ -143,7 +143,7 @@ fn run_bytes<F: FirmwareStore, K: Sink>(
     ensures unfilled { SCRIPT_MOST < length bytes.now → yard.new ≡ yard.old }
 {
     match parse(alloc, bytes) {
-        Ok(parsed) => run_parsed(alloc, &parsed, store, yard, out),
+        Ok(parsed) => run_and_write(alloc, &parsed, store, yard, out),
         Err(ParseFault::Refused(line, cause)) => {
             end_with(alloc, &[Notice::Refused(line, cause)], Status::Refused, out)
         }
@@ -170,11 +170,11 @@ pub fn run_script<F: FirmwareStore, K: Sink>(
     ensures yard { RunLeavesAs (status_of result) (F.images store.old) script.now.commands.items yard.new
         (K.written out.old) (K.written out.new) (K.faults out.old) (K.faults out.new) (F.faults store.old) (F.faults store.new) }
 {
-    run_parsed(alloc, script, store, yard, out).number()
+    run_and_write(alloc, script, store, yard, out).number()
 }
 
 /// Runs a script from nothing, and writes its transcript.
-fn run_parsed<F: FirmwareStore, K: Sink>(
+fn run_and_write<F: FirmwareStore, K: Sink>(
     alloc: Global,
     script: &Script,
     store: &mut F,

@@ -4,7 +4,7 @@ ghost use Rattle.command_run.specs.Runs.{AsksNone, new_run};
 ghost use Rattle.command_run.specs.declared.faults.OutputFault.TheVariants as fault;
 ghost use Rattle.script_run.specs.Outputs.{stop_output, store_fault_output};
 ghost use Rattle.script_run.specs.Yards.{RunLeaves};
-ghost use Rattle.script_run.specs.Told.{EndsRun, RunWrites};
+ghost use Rattle.script_run.specs.Delivery.{EndsRun, RunWrites};
 
 use crate::statuses::Status;
 use command_run::{CommandFault, Objects, OutputFault, run_command};
@@ -53,7 +53,7 @@ fn tell_commands<F: FirmwareStore, K: Sink>(
         match run_command(objects, command, store, &mut log, out) {
             Ok(None) => log.hand_on(out)?,
             Ok(Some(stop)) => return end_run(Some(stop), &mut log, out),
-            Err(CommandFault::Store) => return end_failed(&mut log, out),
+            Err(CommandFault::Store) => return end_with_fault(&mut log, out),
             Err(CommandFault::Write) => return Err(OutputFault::Failed),
             Err(CommandFault::NoMemory) => return Err(OutputFault::NoMemory),
         }
@@ -81,7 +81,7 @@ fn end_run<K: Sink>(
 }
 
 /// Hands on what a run told whose store failed, with the line that says so. That needs no memory.
-fn end_failed<K: Sink>(log: &mut RunLog, out: &mut K) -> Result<Status, OutputFault>
+fn end_with_fault<K: Sink>(log: &mut RunLog, out: &mut K) -> Result<Status, OutputFault>
     ensures written { EndsRun result store_fault_output log.old.lines (K.written out.old) (K.written out.new) (K.faults out.old) (K.faults out.new) }
     ensures found { result ≢ Err fault.NoMemory }
 {

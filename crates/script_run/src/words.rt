@@ -3,7 +3,7 @@ ghost use Rattle.std.specs.List.{list_any};
 ghost use Rattle.clap.specs.Words.{kind_of};
 ghost use Rattle.script_run.specs.Outputs.{argument_form, argument_of, demo_form, form_of, named_form, numbers_form, plan_form, storm_form, word_form};
 ghost use Rattle.word_kinds.specs.Spellings.{name_of};
-ghost use Rattle.script_run.specs.Asked.{AreMatched, IsInForm, asked_form, begins_with_dash};
+ghost use Rattle.script_run.specs.Requests.{AreMatched, IsInForm, request_form, begins_with_dash};
 
 use clap::error::ErrorKind;
 use clap::{Arg, ArgMatches, Command};
@@ -15,7 +15,7 @@ use word_kinds::number_to_base;
 
 /// What the words of the command line ask for.
 #[derive(Clone, Copy)]
-pub enum Asked<'a> {
+pub enum Request<'a> {
     /// Nothing that the program does.
     Other,
     /// `run`: to run the script.
@@ -32,18 +32,18 @@ pub enum Asked<'a> {
 
 /// What these words, those behind the name of the program, ask for. A word that begins with `-` asks
 /// for nothing that the program does.
-pub(crate) fn read_words<'a>(alloc: Global, words: &'a [&'a str]) -> Result<Asked<'a>, NoMemory>
-    ensures form { IfOk result (λ asked. asked_form asked ≡ form_of (map (λ word. word.now) words.now)) }
+pub(crate) fn read_words<'a>(alloc: Global, words: &'a [&'a str]) -> Result<Request<'a>, NoMemory>
+    ensures form { IfOk result (λ asked. request_form asked ≡ form_of (map (λ word. word.now) words.now)) }
     ensures in_form { IfOk result IsInForm }
 {
     if has_dashed_word(words) {
-        return Ok(Asked::Other);
+        return Ok(Request::Other);
     }
     let Ok(matches) = matches_of(alloc, words) else {
         return Err(NoMemory);
     };
     let Some(job) = matches.get_str("JOB") else {
-        return Ok(Asked::Other);
+        return Ok(Request::Other);
     };
     let args = matches.get_strs("ARGS").unwrap_or(&[]);
     Ok(ask_by(job, args))
@@ -79,46 +79,46 @@ fn matches_of<'a>(alloc: Global, words: &'a [&'a str]) -> Result<ArgMatches<'a>,
 }
 
 /// What this job with these arguments asks for.
-fn ask_by<'a>(job: &'a str, args: &[&'a str]) -> Asked<'a>
-    ensures form { asked_form result ≡ form_of (job.now ∷ map (λ word. word.now) args.now) }
+fn ask_by<'a>(job: &'a str, args: &[&'a str]) -> Request<'a>
+    ensures form { request_form result ≡ form_of (job.now ∷ map (λ word. word.now) args.now) }
     ensures in_form { IsInForm result }
 {
     match args {
-        [] if job == "run" => Asked::Run,
-        [] if job == "audit" => Asked::Audit,
+        [] if job == "run" => Request::Run,
+        [] if job == "audit" => Request::Audit,
         [argument] if job == "check" => name_in_word(argument),
         [argument] if job == "demo" => sessions_in_word(argument),
         [hosts, remotes, count, num] if job == "storm" => {
             plan_in_words(hosts, remotes, count, num)
         }
-        _ => Asked::Other,
+        _ => Request::Other,
     }
 }
 
-fn name_in_word(word: &str) -> Asked<'_>
-    ensures form { asked_form result ≡ named_form (name_of word.now) }
+fn name_in_word(word: &str) -> Request<'_>
+    ensures form { request_form result ≡ named_form (name_of word.now) }
     ensures in_form { IsInForm result }
 {
     match script_lang::name(word.as_bytes()) {
-        Some(name) => Asked::Check(word, name),
-        None => Asked::Other,
+        Some(name) => Request::Check(word, name),
+        None => Request::Other,
     }
 }
 
-fn sessions_in_word(word: &str) -> Asked<'_>
-    ensures form { asked_form result ≡ demo_form (argument_of word.now) }
+fn sessions_in_word(word: &str) -> Request<'_>
+    ensures form { request_form result ≡ demo_form (argument_of word.now) }
     ensures in_form { IsInForm result }
 {
     match argument(word.as_bytes()) {
         Some(sessions) if sessions >= 1 && sessions <= u64::from(SESSIONS_MOST) => {
-            Asked::Demo(sessions as u32)
+            Request::Demo(sessions as u32)
         }
-        _ => Asked::Other,
+        _ => Request::Other,
     }
 }
 
-fn plan_in_words<'a>(hosts: &str, remotes: &str, count: &str, num: &str) -> Asked<'a>
-    ensures form { asked_form result ≡ storm_form (argument_of hosts.now) (argument_of remotes.now) (argument_of count.now) (argument_of num.now) }
+fn plan_in_words<'a>(hosts: &str, remotes: &str, count: &str, num: &str) -> Request<'a>
+    ensures form { request_form result ≡ storm_form (argument_of hosts.now) (argument_of remotes.now) (argument_of count.now) (argument_of num.now) }
     ensures in_form { IsInForm result }
 {
     match (
@@ -130,12 +130,12 @@ fn plan_in_words<'a>(hosts: &str, remotes: &str, count: &str, num: &str) -> Aske
         (Some(hosts), Some(remotes), Some(count), Some(num)) => {
             plan_of_numbers(hosts, remotes, count, num)
         }
-        _ => Asked::Other,
+        _ => Request::Other,
     }
 }
 
-fn plan_of_numbers<'a>(hosts: u64, remotes: u64, count: u64, num: u64) -> Asked<'a>
-    ensures form { asked_form result ≡ plan_form (record { hosts = hosts; remotes = remotes; count = count; num = num }) }
+fn plan_of_numbers<'a>(hosts: u64, remotes: u64, count: u64, num: u64) -> Request<'a>
+    ensures form { request_form result ≡ plan_form (record { hosts = hosts; remotes = remotes; count = count; num = num }) }
     ensures in_form { IsInForm result }
 {
     if (1..=u64::from(END_CALLERS_MOST)).contains(&hosts)
@@ -144,14 +144,14 @@ fn plan_of_numbers<'a>(hosts: u64, remotes: u64, count: u64, num: u64) -> Asked<
         && num <= u64::from(RING_MOST)
         && is_ring_size(num as u32)
     {
-        Asked::Storm(Plan {
+        Request::Storm(Plan {
             hosts: hosts as u8,
             remotes: remotes as u8,
             count: count as u32,
             num: num as u32,
         })
     } else {
-        Asked::Other
+        Request::Other
     }
 }
 

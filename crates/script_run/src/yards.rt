@@ -1,7 +1,7 @@
 ghost use Rattle.std.specs.Prelude.{◌≡◌, IfOk, option_map};
 ghost use Rattle.std.specs.Option.{option_copied};
-ghost use Rattle.command_run.specs.Lookups.{bench_named, core_taken, is_bare, link_taken, without_core, without_link};
-ghost use Rattle.command_run.specs.Runs.{core_named, new_run};
+ghost use Rattle.command_run.specs.Lookups.{bench_under, core_state_under, is_bare, link_bench_under, without_core, without_link};
+ghost use Rattle.command_run.specs.Runs.{core_under, new_run};
 
 use command_run::Objects;
 use crash_recover::{Bench, Core};
@@ -43,23 +43,23 @@ impl Yard {
     /// The bench of the link of this name, or of the link of the core of this name. There is none
     /// exactly where no link has the name, and no core that has a link.
     pub fn bench(&self, name: &str) -> Option<&Bench>
-        ensures { option_copied result ≡ bench_named self.now name.now }
+        ensures { option_copied result ≡ bench_under self.now name.now }
     {
         self.objects.bench(name.as_bytes())
     }
 
     /// The core of this name.
     pub fn core(&self, name: &str) -> Option<&Core>
-        ensures { option_copied result ≡ option_map (λ named. named.core) (core_named self.now name.now) }
+        ensures { option_copied result ≡ option_map (λ named. named.core) (core_under self.now name.now) }
     {
-        let named = self.objects.core_named(name.as_bytes())?;
+        let named = self.objects.core_under(name.as_bytes())?;
         Some(&named.core)
     }
 
     /// Takes the bench of the link of this name out of the yard, to go on with it. A core's link stays
     /// with its core.
     pub fn take_link(&mut self, name: &str) -> Option<Bench>
-        ensures taken { result ≡ link_taken self.old name.now }
+        ensures taken { result ≡ link_bench_under self.old name.now }
         ensures left { self.new ≡ without_link self.old name.now }
     {
         self.objects.take_link(name.as_bytes())
@@ -67,7 +67,7 @@ impl Yard {
 
     /// Takes the core of this name out of the yard, with its link, to go on with it.
     pub fn take_core(&mut self, name: &str) -> Option<Core>
-        ensures taken { result ≡ core_taken self.old name.now }
+        ensures taken { result ≡ core_state_under self.old name.now }
         ensures left { self.new ≡ without_core self.old name.now }
     {
         self.objects.take_core(name.as_bytes())

@@ -45,7 +45,7 @@ use Rattle.channel_bus.specs.Sides.{EndState, side_meaning}
 use Rattle.link_bench.specs.declared.benches.BegunCall.{BegunCall}
 use Rattle.link_bench.specs.declared.benches.Reach.{Reach}
 use Rattle.link_bench.specs.declared.benches.Reach.TheVariants as reach
-use Rattle.link_bench.specs.Benches.{BenchState, BenchWalk, LinkRings, Walk, advance_steps, bench_walk, begin_walk, call_steps, later_steps, link_in, lists_of, on_rings, step_on, walk_on, with_begun}
+use Rattle.link_bench.specs.Benches.{BenchState, BenchWalk, LinkRings, Walk, advance_steps, bench_walk, begin_walk, call_steps, later_steps, link_in, lists_of, on_rings, step_on, walk_on, with_begun_call}
 use Rattle.link_bench.proofs.Lists.{is_rings}
 use Rattle.link_bench.proofs.Walks.{goes_on_at}
 use Rattle.act_laws.specs.Deeds.{reach_takes}
@@ -329,6 +329,6 @@ module _ (bench : BenchState) (comes : ComesFromOpening (link_in bench)) (more s
   -- steps of the call that a caller is in
   pub advance_once : (found : Option BegunCall) → MayGo bench caller found → BenchTakesOne (advance_steps bench more steps caller found)
   advance_once (Some call) may =
-      cond_both (steps == STEPS_MOST) (record { bench = bench; steps = steps; reach = reach.Limit }) (bench_walk (with_begun bench caller None) (call_steps on_rings more steps bench.rings caller call.follows call.wish)) BenchTakesOne (λ _. tt)
+      cond_both (steps == STEPS_MOST) (record { bench = bench; steps = steps; reach = reach.Limit }) (bench_walk (with_begun_call bench caller None) (call_steps on_rings more steps bench.rings caller call.follows call.wish)) BenchTakesOne (λ _. tt)
       (λ _. call_once more steps bench.rings caller call.follows call.wish (booked_on_way (link_in bench) comes) may)
   advance_once None may = later_once (more + 1) 0 steps bench.rings caller (booked_on_way (link_in bench) comes) may

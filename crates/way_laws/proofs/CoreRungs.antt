@@ -40,7 +40,7 @@ use Rattle.resource_table.specs.Tables.{GoodTable, IsSoundDevice, IsSoundEntry}
 use Rattle.resource_table.specs.declared.entries.Entry.{Entry}
 use Rattle.resource_table.specs.declared.entries.Entry.TheVariants as entry
 use Rattle.resource_table.specs.declared.entries.Vdev.{Vdev}
-use Rattle.run_laws.proofs.CoreWalks.{FitsNamed, KeepCores, core_kept}
+use Rattle.run_laws.proofs.CoreWalks.{FitsNamed, KeepCores, core_is_kept}
 use Rattle.run_laws.proofs.CoresReady.{IsSoundCore, may_drive, sound_cores, sound_stays}
 use Rattle.run_laws.proofs.RegionsSound.{first_sound, more_sound}
 use Rattle.script_lang.specs.Runnable.{IsBook}
@@ -270,7 +270,7 @@ rung_cores = record {
 pub core_rung : (images : List ImageState) (answer : ImageAnswer) (on : NamedCoreState) (steps : ℕ) → IsSoundCore on.core → IsRungCore on.core → (is_quiet : Bool) (wanted : NamedAct (List ℕ))
     → FitsNamed IsFitAct wanted → IsRungCore (core_effect images answer is_quiet on steps wanted).core
 core_rung images answer on steps sound is is_quiet wanted fits =
-    (core_kept IsFitAct IsSoundRung rung_cores images answer is_quiet on steps wanted fits (record { sound = sound; rung = is })).rung
+    (core_is_kept IsFitAct IsSoundRung rung_cores images answer is_quiet on steps wanted fits (record { sound = sound; rung = is })).rung
 
 -- a core that a script makes
 pub new_core_rung : (set : RegionSet) (book : ℕ) → IsBook book → IsRungCore (new_core (regions_of set) [] book)

@@ -1,17 +1,13 @@
 -- What is done under the name of a core keeps the tale of its link.
-use Rattle.std.proofs.Common.{◌≡◌, ℕ, [], Bool, true, false, cond, List, Option, Some, None, IfSome, option_map, Result, Ok, Err, refl, sym, subst}
+use Rattle.std.proofs.Common.{◌≡◌, ℕ, [], Bool, true, false, cond, List, Option, Some, None, IfSome, option_map, refl, sym, subst}
 use Rattle.std.specs.Option.{IsSomeAnd}
-use Rattle.std.proofs.lemmas.Bool.{cond_both}
 use Rattle.rp_io.specs.Images.{ImageAnswer}
 use Rattle.rp_base.specs.declared.kinds.End.{End}
 use Rattle.rp_base.specs.declared.kinds.End.TheVariants as side
 use Rattle.fw_load.specs.declared.rings.RingPair.{RingPair}
-use Rattle.proc_state.specs.declared.answers.Left.{Left as LeftTo}
-use Rattle.proc_state.specs.declared.answers.Left.TheVariants as left_to
+use Rattle.proc_state.specs.declared.answers.Left.{Left}
 use Rattle.proc_state.specs.declared.answers.LifeFault.{LifeFault}
-use Rattle.proc_state.specs.declared.answers.Power.{Power}
-use Rattle.proc_state.specs.declared.answers.Power.TheVariants as power
-use Rattle.proc_state.specs.Lives.{CoreLife, is_offline, is_up, life_after_boot, life_after_detach, life_after_handover, life_after_shutdown, recovery_fault}
+use Rattle.proc_state.specs.Lives.{Outcome, is_up, life_after_boot, recovery_fault}
 use Rattle.lane_model.specs.Links.{LinkState}
 use Rattle.lane_laws.specs.Moves.{Enlist, link_after_move}
 use Rattle.lane_laws.specs.Ways.{IsOpened}
@@ -33,14 +29,14 @@ use Rattle.crash_recover.specs.declared.core_faults.StartFault.{StartFault}
 use Rattle.crash_recover.specs.declared.core_faults.StartFault.TheVariants as start_fault
 use Rattle.crash_recover.specs.CoreCrashes.{report_of}
 use Rattle.crash_recover.specs.CoreActs.{core_act_on}
-use Rattle.crash_recover.specs.CoreBoots.{boot_as, boot_of, config_of, core_bench, first_boot, fresh_end, handover_as, handover_of, image_fault, load_in, started_core, with_load}
-use Rattle.crash_recover.specs.CoreLeaves.{close_or, detach_of, detached_core, leave_as, live_inc, shutdown_of, unloaded_core}
+use Rattle.crash_recover.specs.CoreBoots.{config_of, core_bench, fresh_end, load_in}
 use Rattle.crash_recover.specs.CoreRecoveries.{after_recovery, core_to_reopen, recovery_of, reload_fault, reopen_fault}
 use Rattle.crash_recover.specs.Cores.{CoreOutcome, CoreState, loaded_rings, refuse_or}
 use Rattle.core_actors.specs.Actors.{driver_names}
 use Rattle.core_actors.specs.ActorEnds.{actors_after_end}
 use Rattle.crash_recover.specs.Drives.{drive_step}
 use Rattle.core_laws.specs.BenchMoves.{IsReachedBench, IsReachedCore}
+use Rattle.core_laws.proofs.CallOutcomes.{Attaches, BootOutcome, Empties, HandoverOutcome, HandsOver, LeaveOutcome, Runs, boot_outcome, detach_outcome, handover_outcome, shutdown_outcome}
 use Rattle.core_laws.proofs.DriveWalks.{both_known}
 use Rattle.link_commands.specs.declared.acts.CoreAct.TheVariants as act
 use Rattle.link_commands.specs.declared.acts.NamedAct.{NamedAct}
@@ -53,7 +49,7 @@ use Rattle.command_run.specs.CoreLinks.{core_link_effect}
 use Rattle.command_run.specs.CoreLives.{booted_image, found_image, may_step, start_name, start_with}
 use Rattle.command_run.specs.NamedCores.{NamedCoreState}
 use Rattle.command_run.specs.NamedImages.{ImageState}
-use Rattle.run_laws.specs.Drives.{after_steps, drive_made}
+use Rattle.run_laws.specs.Drives.{after_steps, drive_length_within}
 use Rattle.run_laws.proofs.CoreActWalks.{ActOutcome, Crashes, Detaches, Drives, LinkActs, ShutsDown, Starts, act_outcome, link_effect_core}
 use Rattle.run_laws.proofs.CoreWalks.{FitsNamed}
 use Rattle.run_laws.proofs.CoresReady.{IsSoundCore, may_drive, sound_cores}
@@ -131,56 +127,26 @@ module _ (end : End) (core : CoreState) (account : Option Account) (is : TaleIf 
   abbrev Booted : CoreOutcome Start StartFault → Type 0
   Booted done = TaleIf end done.core.bench (started_account done.core.bench done.answer account)
 
-  unless_booted : (why : Option StartFault) (done : CoreOutcome Start StartFault) → Booted done → Booted (refuse_or core why done)
-  unless_booted None done rest = rest
-  unless_booted (Some why) done rest = is
+  boot_tale : {name : List ℕ} {found : ImageAnswer} {out : CoreOutcome Start StartFault} → BootOutcome core name found out → Booted out
+  boot_tale {found = found} (Runs first off clear) = begun_if end _ (rings_begun (driver_names core.actors) core.book (life_after_boot core.life).life.incarnation (load_in core found).rings)
+  boot_tale (Attaches first on) = begun_if end _ (rings_begun (driver_names core.actors) core.book (life_after_boot core.life).life.incarnation (loaded_rings core.loaded))
+  boot_tale came = is
 
-  first_booted : (life : CoreLife) (name : List ℕ) (found : ImageAnswer) → Booted (first_boot life core name found)
-  first_booted life name found =
-      let done : CoreOutcome Start StartFault = record { core = started_core life (with_load core name (load_in core found)); answer = Ok (start.Running life.incarnation) } in
-      cond_both (is_offline core.life.state) (refuse_or core (image_fault core found) done) (record { core = started_core life core; answer = Ok (start.Attached life.incarnation) }) Booted
-      (λ _. unless_booted (image_fault core found) done (begun_if end _ (rings_begun (driver_names core.actors) core.book life.incarnation (load_in core found).rings)))
-      (λ _. begun_if end _ (rings_begun (driver_names core.actors) core.book life.incarnation (loaded_rings core.loaded)))
-
-  booted_as : (life : CoreLife) (answer : Result Power LifeFault) (name : List ℕ) (found : ImageAnswer) → Booted (boot_as life answer core name found)
-  booted_as life (Err why) name found = is
-  booted_as life (Ok (power.Counted users)) name found = is
-  booted_as life (Ok power.First) name found = first_booted life name found
-
-  boot_tale : (name : List ℕ) (found : ImageAnswer) → Booted (boot_of core name found)
-  unfolding boot_of
-  boot_tale name found = booted_as (life_after_boot core.life).life (life_after_boot core.life).answer name found
+  -- a handover makes no link
+  handover_tale : {name : List ℕ} {found : ImageAnswer} {out : CoreOutcome Start StartFault} → HandoverOutcome core name found out → TaleIf end out.core.bench account
+  handover_tale (HandsOver done answer clear) = is
+  handover_tale came = is
 
   -- ---- the last user
-
-  abbrev Left : CoreOutcome Leave LeaveFault → Type 0
-  Left done = TaleIf end done.core.bench (left_account done.core.bench account)
 
   left_same : (found : Option BenchState) → TaleIf end found account → TaleIf end found (left_account found account)
   left_same None same = tt
   left_same (Some bench) same = same
 
-  unless_left : (why : Option LeaveFault) (done : CoreOutcome Leave LeaveFault) → Left done → Left (refuse_or core why done)
-  unless_left None done rest = rest
-  unless_left (Some why) done rest = left_same core.bench is
-
-  closed_left : (may : Bool) (gone : CoreState) (live : Option ℕ) → TaleIf end gone.bench (left_account gone.bench account) → Left (close_or may core gone live)
-  closed_left may gone None rest = rest
-  closed_left true gone (Some inc) rest = rest
-  closed_left false gone (Some inc) rest = left_same core.bench is
-
-  left_as : (may : Bool) (gone : CoreState) (life : CoreLife) (answer : Result LeftTo LifeFault) → TaleIf end gone.bench (left_account gone.bench account) → Left (leave_as may core gone life answer)
-  left_as may gone life (Err why) rest = left_same core.bench is
-  left_as may gone life (Ok (left_to.Users users)) rest = left_same core.bench is
-  left_as may gone life (Ok left_to.Last) rest = unless_left _ (close_or may core gone (live_inc core.bench)) (closed_left may gone (live_inc core.bench) rest)
-
-  shutdown_tale : (may : Bool) → Left (shutdown_of may core)
-  unfolding shutdown_of
-  shutdown_tale may = left_as may (unloaded_core (life_after_shutdown core.life).life core) (life_after_shutdown core.life).life (life_after_shutdown core.life).answer tt
-
-  detach_tale : (may : Bool) → Left (detach_of may core)
-  unfolding detach_of
-  detach_tale may = left_as may (detached_core (life_after_detach core.life).life core) (life_after_detach core.life).life (life_after_detach core.life).answer tt
+  leave_tale : {may : Bool} {gone : CoreState} {after : Outcome Left} {out : CoreOutcome Leave LeaveFault} → LeaveOutcome may core gone after out → TaleIf end gone.bench (left_account gone.bench account)
+      → TaleIf end out.core.bench (left_account out.core.bench account)
+  leave_tale (Empties all live was) rest = rest
+  leave_tale came rest = left_same core.bench is
 
   -- ---- a recovery
 
@@ -221,7 +187,7 @@ module _ (end : End) (core : CoreState) (account : Option Account) (is : TaleIf 
 -- ---- drives
 
 steps_tale : (end : End) (count : ℕ) (core : CoreState) (steps : ℕ) → is_up core.life.state ≡ true → (account : Option Account) → IsSoundCore core → TaleIf end core.bench account
-    → TaleIf end (after_steps (drive_made count core steps) core).bench (drive_account end count core steps account)
+    → TaleIf end (after_steps (drive_length_within count core steps) core).bench (drive_account end count core steps account)
 unfolding steps_account
 steps_tale end =
     drive_while_up (λ made core. (account : Option Account) → IsSoundCore core → TaleIf end core.bench account → TaleIf end (after_steps made core).bench (steps_account end made core account))
@@ -254,21 +220,11 @@ act_calm end core steps asked (Some bench) = Open (act_open actors_after_end 2 b
 -- ---- what is done under the name of a core
 
 module _ (end : End) (images : List ImageState) (answer : ImageAnswer) (on : NamedCoreState) (steps : ℕ) (account : Option Account) (is : TaleIf end on.core.bench account) where
-  image_left : (why : Option StartFault) (done : CoreOutcome Start StartFault) → TaleIf end done.core.bench account → TaleIf end (refuse_or on.core why done).core.bench account
-  image_left None done rest = rest
-  image_left (Some why) done rest = is
-
-  handover_left : (life : CoreLife) (told : Result (Unit {0}) LifeFault) (name : List ℕ) (found : ImageAnswer) → TaleIf end (handover_as life told on.core name found).core.bench account
-  handover_left life (Err why) name found = is
-  handover_left life (Ok done) name found = image_left (image_fault on.core found) _ is
-
   -- ---- lives
 
   start_on : (start : StartAct) → TaleIf end (start_with start on.core (found_image images answer (start_name start on))).core.bench (life_account end images answer on steps (act.Start start) account)
-  unfolding handover_of
-  start_on (starts.Boot image) = boot_tale end on.core account is image (found_image images answer image)
-  start_on (starts.Handover image) =
-      handover_left (life_after_handover on.core.life).life (life_after_handover on.core.life).answer image (found_image images answer image)
+  start_on (starts.Boot image) = boot_tale end on.core account is (boot_outcome on.core image (found_image images answer image))
+  start_on (starts.Handover image) = handover_tale end on.core account is (handover_outcome on.core image (found_image images answer image))
   start_on starts.Recover = recovery_tale end on.core account is (found_image images answer (booted_image on.name on.core))
 
   linked_tale : (asked : LinkAct (List ℕ)) → IsFitAct asked → IsReachedCore on.core
@@ -283,8 +239,8 @@ module _ (end : End) (images : List ImageState) (answer : ImageAnswer) (on : Nam
       → TaleIf end effect.core.bench (core_account_after end images answer on steps wanted account)
   outcome_tale (LinkActs asked) fits sound = linked_tale asked fits sound.reached
   outcome_tale (Starts start) fits sound = start_on start
-  outcome_tale ShutsDown fits sound = shutdown_tale end on.core account is (may_step steps)
-  outcome_tale Detaches fits sound = detach_tale end on.core account is (may_step steps)
+  outcome_tale ShutsDown fits sound = leave_tale end on.core account is (shutdown_outcome (may_step steps) on.core) tt
+  outcome_tale Detaches fits sound = leave_tale end on.core account is (detach_outcome (may_step steps) on.core) tt
   outcome_tale (Crashes kind) fits sound =
       deeds_if end on.core.bench account _ (report_of (may_step steps) on.core).core.bench is (Silent (reported_none end (report_of (may_step steps) on.core).answer on.core.bench)) (report_lands (may_step steps) on.core)
   outcome_tale {is_quiet = is_quiet} (Drives count) fits sound = drive_tale end on.name is_quiet on.core steps count account sound is

@@ -14,7 +14,7 @@ use Rattle.crash_recover.specs.Cores.{CoreState}
 use Rattle.crash_recover.specs.Drives.{drive_step}
 use Rattle.command_run.specs.CoreDrives.{drive_effect, drive_steps, step_events}
 use Rattle.command_run.specs.CoreEffects.{CoreEffect, core_tells}
-use Rattle.run_laws.specs.Drives.{after_steps, drive_made, steps_events}
+use Rattle.run_laws.specs.Drives.{after_steps, drive_length_within, steps_events}
 use Rattle.run_laws.proofs.CoresReady.{IsSoundCore, may_drive, sound_cores}
 use Rattle.run_laws.proofs.ScriptDrives.{drive_told, drive_while_up, last_is}
 use Rattle.act_laws.specs.Accounts.{Account}
@@ -66,7 +66,7 @@ module _ (name : List ℕ) where
 
   module _ (is_quiet : Bool) where
     told_among : (count : ℕ) (core : CoreState) (steps : ℕ) → is_up core.life.state ≡ true → IsSoundCore core → IfSome core.bench (λ (bench : BenchState). ComesFromOpening (link_in bench))
-        → AreLinesAmong (drive_takes count core steps) name (steps_events (drive_made count core steps) name is_quiet core)
+        → AreLinesAmong (drive_takes count core steps) name (steps_events (drive_length_within count core steps) name is_quiet core)
     unfolding steps_events steps_takes
     told_among =
         drive_while_up
@@ -87,7 +87,7 @@ module _ (name : List ℕ) where
       steps_among up =
           let Q = IsAmong (drive_takes count core steps) in
           drive_told name is_quiet Q count core steps (told_among count core steps up sound comes)
-          (last_is name Q (after_steps (drive_made count core steps) core) (λ is. absurd (true≢false (sym is))) (λ is. absurd (true≢false (sym is))) (λ is. absurd (true≢false (sym is))))
+          (last_is name Q (after_steps (drive_length_within count core steps) core) (λ is. absurd (true≢false (sym is))) (λ is. absurd (true≢false (sym is))) (λ is. absurd (true≢false (sym is))))
 
       pub drive_among : AreLinesAmong (drive_takes count core steps) name (drive_effect name is_quiet core steps count).events
       unfolding drive_effect
@@ -128,4 +128,4 @@ module _ (end : End) where
       deeds_then_add core.bench (drive_deeds core) account (steps_account end more next behind) (steps_takes more next end) (none_driven core end) (steps_add more next behind)
 
   pub drive_adds : (count : ℕ) (core : CoreState) (steps : ℕ) (account : Option Account) → Adds account (drive_account end count core steps account) (drive_takes count core steps end)
-  drive_adds count core steps account = steps_add (drive_made count core steps) core account
+  drive_adds count core steps account = steps_add (drive_length_within count core steps) core account

@@ -25,8 +25,8 @@ use Rattle.remote_core.specs.Works.{work_of}
 use Rattle.link_bench.specs.declared.benches.Reach.{Reach}
 use Rattle.link_bench.specs.declared.benches.Reach.TheVariants as reach
 use Rattle.link_bench.specs.Benches.{BenchState, link_in}
-use Rattle.core_actors.specs.declared.progress.Driven.{Driven}
-use Rattle.core_actors.specs.declared.progress.Driven.TheVariants as driven
+use Rattle.core_actors.specs.declared.progress.DriveOutcome.{DriveOutcome}
+use Rattle.core_actors.specs.declared.progress.DriveOutcome.TheVariants as driven
 use Rattle.core_actors.specs.ActorSteps.{drive_of_reach, drive_of_work, first_or_take, link_step}
 use Rattle.core_actors.specs.PendingCalls.{AreOwnUsed}
 use Rattle.crash_recover.specs.Cores.{CoreState}
@@ -38,7 +38,7 @@ use Rattle.command_run.specs.CoreDrives.{drive_effect, drive_steps, driven_event
 use Rattle.command_run.specs.CoreEffects.{CoreEffect, core_tells}
 use Rattle.command_run.specs.CoreLives.{crash_events}
 use Rattle.link_commands.specs.CallEvents.{end_event, refused_event, took_event}
-use Rattle.run_laws.specs.Drives.{after_steps, drive_made, last_event, steps_events}
+use Rattle.run_laws.specs.Drives.{after_steps, drive_length_within, last_event, steps_events}
 use Rattle.run_laws.proofs.CoresReady.{IsSoundCore, may_drive, sound_cores}
 use Rattle.run_laws.proofs.ScriptDrives.{drive_as, drive_while_up, last_is}
 use Rattle.act_laws.specs.CoreDeeds.{drive_deeds, driven_takes}
@@ -48,7 +48,7 @@ use Rattle.way_laws.specs.TakersLines.{drive_lines, is_line_of, lines_for, lines
 use Rattle.way_laws.specs.WordedTakes.{ComesFromOpening, IsWordedTake, taker_of}
 use Rattle.way_laws.proofs.DrivenTakes.{drive_told}
 use Rattle.way_laws.proofs.DrivenWords.{DrivenTakesOne, drive_comes, drive_once}
-use Rattle.way_laws.proofs.Worded.{once_worded}
+use Rattle.way_laws.proofs.WordedLines.{once_worded}
 
 -- ---- lines
 
@@ -191,12 +191,12 @@ module _ (name : List ℕ) (caller : ℕ) where
   crash_none why (Some inc) = refl
 
   -- the caller of a call that a step ended is an actor's
-  abbrev OfActor : Driven → Type 0
+  abbrev OfActor : DriveOutcome → Type 0
   OfActor (driven.Ended who came) = IsActor who
   OfActor other = Unit {0}
 
   module _ (is_quiet : Bool) where
-    driven_told : (came : Driven) (found : Option BenchState) (takes : End → List Handing) → OfActor came → IfSome found (λ (bench : BenchState). AreOwnUsed (link_in bench).callers) → DrivenTakesOne came found
+    driven_told : (came : DriveOutcome) (found : Option BenchState) (takes : End → List Handing) → OfActor came → IfSome found (λ (bench : BenchState). AreOwnUsed (link_in bench).callers) → DrivenTakesOne came found
         → ((end : End) → takes end ≡ driven_takes came found end) → lines_of caller (driven_events name is_quiet found came) ≡ drive_lines is_quiet name caller takes
     driven_told driven.Idle found takes is own one tells = none_lines is_quiet takes [] refl tells
     driven_told driven.Stepped found takes is own one tells = none_lines is_quiet takes [] refl tells
@@ -243,7 +243,7 @@ module _ (name : List ℕ) (caller : ℕ) where
     -- ---- a drive
 
     steps_told : (count : ℕ) (core : CoreState) (steps : ℕ) → is_up core.life.state ≡ true → IsSoundCore core → IfSome core.bench (λ (bench : BenchState). ComesFromOpening (link_in bench))
-        → lines_of caller (steps_events (drive_made count core steps) name is_quiet core) ≡ drive_lines is_quiet name caller (drive_takes count core steps)
+        → lines_of caller (steps_events (drive_length_within count core steps) name is_quiet core) ≡ drive_lines is_quiet name caller (drive_takes count core steps)
     unfolding steps_events steps_takes
     steps_told =
         drive_while_up
@@ -261,8 +261,8 @@ module _ (name : List ℕ) (caller : ℕ) where
       walked_told : is_up core.life.state ≡ true → lines_of caller (drive_steps count name is_quiet core steps).events ≡ drive_lines is_quiet name caller (drive_takes count core steps)
       walked_told up =
           let told = steps_told count core steps up sound comes in
-          let made = steps_events (drive_made count core steps) name is_quiet core in
-          let left = after_steps (drive_made count core steps) core in
+          let made = steps_events (drive_length_within count core steps) name is_quiet core in
+          let left = after_steps (drive_length_within count core steps) core in
           let behind : (ending : List Event) → lines_of caller ending ≡ [] → lines_of caller (made ++ ending) ≡ drive_lines is_quiet name caller (drive_takes count core steps)
           = λ ending none. filter-append (is_line_of caller) made ending ∙ ap (λ (lines : List Event). lines_of caller made ++ lines) none ∙ append-nil (lines_of caller made) ∙ told in
           drive_as name is_quiet (λ (effect : CoreEffect). lines_of caller effect.events ≡ drive_lines is_quiet name caller (drive_takes count core steps)) count core steps

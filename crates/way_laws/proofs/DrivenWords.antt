@@ -18,8 +18,8 @@ use Rattle.link_bench.specs.declared.benches.Reach.{Reach}
 use Rattle.link_bench.specs.declared.benches.Reach.TheVariants as reach
 use Rattle.link_bench.specs.Benches.{BenchState, BenchWalk, advance_walk, begun_call_of, is_in_call, link_in, start_walk}
 use Rattle.link_bench.specs.BenchEnds.{crashed_bench}
-use Rattle.core_actors.specs.declared.progress.Driven.{Driven}
-use Rattle.core_actors.specs.declared.progress.Driven.TheVariants as driven
+use Rattle.core_actors.specs.declared.progress.DriveOutcome.{DriveOutcome}
+use Rattle.core_actors.specs.declared.progress.DriveOutcome.TheVariants as driven
 use Rattle.core_actors.specs.ActorSteps.{drive_of_reach, drive_of_work, first_or_take, link_step}
 use Rattle.core_actors.proofs.ReadyActors.{MayBegin}
 use Rattle.crash_recover.specs.Cores.{CoreState}
@@ -38,10 +38,10 @@ use Rattle.act_laws.proofs.ReachedActs.{may_act}
 use Rattle.way_laws.specs.WordedTakes.{ComesFromOpening, IsWordedTake}
 use Rattle.way_laws.proofs.BookedTakes.{ReachTakesOne, TakesOne, advance_once, begin_once}
 use Rattle.way_laws.proofs.DrivenTakes.{drive_told}
-use Rattle.way_laws.proofs.Worded.{once_worded}
+use Rattle.way_laws.proofs.WordedLines.{once_worded}
 
 -- a step that ended a call left a link, and where the call took a message it is told of one handing
-abbrev pub DrivenTakesOne : Driven → Option BenchState → Type 0
+abbrev pub DrivenTakesOne : DriveOutcome → Option BenchState → Type 0
 DrivenTakesOne (driven.Ended caller came) (Some bench) = TakesOne (link_in bench) caller came
 DrivenTakesOne (driven.Ended caller came) None = ⊥
 DrivenTakesOne other found = Unit {0}
@@ -105,8 +105,8 @@ pub drive_worded : (core : CoreState) → MayDrive core → IsReachedCore core �
     → IsSomeAnd (drive_step core).core.bench (λ (left : BenchState). IsWordedTake (drive_deeds core).takes (link_in left) caller number judged)
 drive_worded core may reached comes caller number judged is =
     let left = (drive_step core).core.bench in
-    worded_at (drive_deeds core).takes caller number judged left (subst (λ (came : Driven). DrivenTakesOne came left) is (drive_once core may reached comes))
-    (λ end. subst (λ (came : Driven). (drive_deeds core).takes end ≡ driven_takes came left end) is (drive_told end core))
+    worded_at (drive_deeds core).takes caller number judged left (subst (λ (came : DriveOutcome). DrivenTakesOne came left) is (drive_once core may reached comes))
+    (λ end. subst (λ (came : DriveOutcome). (drive_deeds core).takes end ≡ driven_takes came left end) is (drive_told end core))
 
 -- ---- the link that it leaves
 
@@ -146,7 +146,7 @@ none_parts = record {
   report = λ core is. report_left (λ (core : CoreState). core.bench ≡ None) true core is (λ life stops. ap (option_map crashed_bench) is);
 }
 
-none_told : (came : Driven) (end : End) → driven_takes came None end ≡ []
+none_told : (came : DriveOutcome) (end : End) → driven_takes came None end ≡ []
 none_told driven.Idle end = refl
 none_told driven.Stepped end = refl
 none_told (driven.Ended caller came) end = refl

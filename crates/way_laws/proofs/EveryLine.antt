@@ -19,7 +19,7 @@ use Rattle.link_commands.specs.NamedLinks.{NamedLink}
 use Rattle.command_run.specs.CoreCommands.{core_act_effect, core_effect}
 use Rattle.command_run.specs.NamedCores.{NamedCoreState}
 use Rattle.command_run.specs.Runs.{RunEffect, RunState, effect_of, run_of}
-use Rattle.command_run.specs.Stores.{Told}
+use Rattle.command_run.specs.Stores.{StoreAnswers}
 use Rattle.run_laws.proofs.CommandWalks.{ActsOnCore, ActsOnLink, CommandOutcome, outcome}
 use Rattle.way_laws.specs.CommandTakes.{AreTakesOfRun, IsTakeOfCore, IsTakeOfLink, core_takes}
 use Rattle.way_laws.specs.CoreAccounts.{core_act_at}
@@ -53,7 +53,7 @@ lines_among takes name events are =
 
 -- ---- the commands of a run
 
-module _ (told : Told) (commands : List Command) (runs : AreRunnable commands) (answer : ImageAnswer) (asked : Command) (may : IsRunnable asked) where
+module _ (told : StoreAnswers) (commands : List Command) (runs : AreRunnable commands) (answer : ImageAnswer) (asked : Command) (may : IsRunnable asked) where
   abbrev run : RunState
   run = (run_of told commands).last
 

@@ -1,13 +1,12 @@
 pub mod DoneAt
 pub mod LinkTales
-pub mod Noted
 pub mod PlaceOutcomes
 pub mod CoreTales
 pub mod RunTales
 pub mod RunCoreTales
 pub mod CoreRungs
 pub mod RunCoreRungs
-pub mod Worded
+pub mod WordedLines
 pub mod DrivenTakes
 pub mod BookedTakes
 pub mod DrivenWords

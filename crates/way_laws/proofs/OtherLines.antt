@@ -19,7 +19,7 @@ use Rattle.link_commands.specs.LinkCommands.{link_effect}
 use Rattle.link_commands.specs.NamedLinks.{NamedLink}
 use Rattle.command_run.specs.Dumps.{bytes_answer, core_answer, crashed_load, kept_dumps, load_answer}
 use Rattle.command_run.specs.NamedCores.{NamedCoreState}
-use Rattle.command_run.specs.Runs.{RunEffect, RunState, core_named, core_place, effect_of, has_image, place_of}
+use Rattle.command_run.specs.Runs.{RunEffect, RunState, core_under, core_place, effect_of, has_image, place_of}
 use Rattle.run_laws.proofs.CommandWalks.{ActsOnCore, ActsOnLink, CommandOutcome, IsNameless, Quiets, RefusesDump, outcome}
 use Rattle.way_laws.specs.CommandTakes.{line_may_take, may_take}
 use Rattle.way_laws.specs.WordedTakes.{TellNoTakes, is_take_line}
@@ -88,7 +88,7 @@ module _ {answer : ImageAnswer} {run : RunState} where
   none_told : {done : Line (List RecipeLine) (List ℕ)} {effect : RunEffect} (came : CommandOutcome answer run done effect) → TakesNone came → HaveNoTakes effect.events
   none_told (Quiets set) none = tt
   none_told (RefusesDump name image told is) none =
-      (subst IsOtherWord is (core_dump_none (has_image run.objects.images image) (kept_dumps run.objects.images) name image (core_named run.objects name)), tt)
+      (subst IsOtherWord is (core_dump_none (has_image run.objects.images image) (kept_dumps run.objects.images) name image (core_under run.objects name)), tt)
   none_told (ActsOnLink name wanted place on at) none = link_none on run.steps wanted none
   none_told (ActsOnCore name wanted place on at) none = core_none run.objects.images answer run.objects.is_quiet on run.steps wanted none
   none_told came none = (refl, tt)

@@ -4,11 +4,11 @@ use Rattle.rp_io.specs.Images.{ImageAnswer}
 use Rattle.script_lang.specs.declared.commands.Command.{Command}
 use Rattle.script_lang.specs.Runnable.{AreRunnable, IsRunnable}
 use Rattle.command_run.specs.Runs.{RunState, effect_of, new_run, run_of}
-use Rattle.command_run.specs.Stores.{Told}
+use Rattle.command_run.specs.Stores.{StoreAnswers}
 use Rattle.run_laws.proofs.Items.{get_changed, get_front, get_none_set, get_pushed}
 use Rattle.run_laws.proofs.RunsReached.{AreSound, command_sound, none_sound}
-use Rattle.way_laws.specs.Notes.{Noting, notes_from}
-use Rattle.way_laws.proofs.Noted.{noted_kept}
+use Rattle.run_laws.specs.Notes.{Noting, notes_from}
+use Rattle.run_laws.proofs.RunInductions.{any_answers, each_is, noted_kept}
 
 -- ---- one command
 
@@ -75,7 +75,7 @@ module _ {X N : Type 0} (items : RunState → List X) (Tale : X → Option N →
   -- what each command keeps level is level at the end of a run
   pub run_level : ((answer : ImageAnswer) (run : RunState) (asked : Command) (noted : Option N) → IsRunnable asked → AreSound run.objects → LevelIn run noted
       → LevelIn (effect_of answer run asked).run (note answer run asked (effect_of answer run asked).run noted)) → LevelIn new_run None
-      → (told : Told) (commands : List Command) → AreRunnable commands → LevelIn (run_of told commands).last (notes_from note told new_run commands None)
+      → (told : StoreAnswers) (commands : List Command) → AreRunnable commands → LevelIn (run_of told commands).last (notes_from note told new_run commands None)
   run_level keeps first told commands runs =
-      (noted_kept note Stands (λ answer run asked noted may stands. record { sound = command_sound answer run asked may stands.sound; level = keeps answer run asked noted may stands.sound stands.level })
-      told new_run commands None runs (record { sound = none_sound; level = first })).level
+      (noted_kept note IsRunnable (λ answer. Unit {0}) Stands (λ answer run asked noted any may stands. record { sound = command_sound answer run asked may stands.sound; level = keeps answer run asked noted may stands.sound stands.level })
+      told new_run commands None (any_answers told) (each_is (λ asked may. may) commands runs) (record { sound = none_sound; level = first })).level

@@ -5,20 +5,20 @@ use Rattle.rp_io.specs.Images.{ImageAnswer}
 use Rattle.lane_laws.specs.SoundRingLinks.{HasSoundRings}
 use Rattle.script_lang.specs.declared.commands.Command.{Command}
 use Rattle.script_lang.specs.declared.recipes.RecipeLine.{RecipeLine}
-use Rattle.script_lang.specs.Runnable.{AreRunnable}
+use Rattle.script_lang.specs.Runnable.{AreRunnable, IsRunnable}
 use Rattle.link_bench.specs.Acts.{IsFitAct}
 use Rattle.link_bench.specs.Benches.{BenchState}
 use Rattle.link_commands.specs.declared.acts.Line.{Line}
 use Rattle.command_run.specs.NamedCores.{NamedCoreState}
 use Rattle.command_run.specs.Runs.{RunEffect, RunState, new_run, run_of}
-use Rattle.command_run.specs.Stores.{Told}
+use Rattle.command_run.specs.Stores.{StoreAnswers}
 use Rattle.run_laws.proofs.CommandWalks.{ActsOnCore, CommandOutcome, MakesCore, made_core, outcome}
 use Rattle.run_laws.proofs.CoresReady.{IsSoundCore}
+use Rattle.run_laws.proofs.RunInductions.{any_answers, each_is, state_kept}
 use Rattle.run_laws.proofs.RunnableLines.{IsRunnableLine, runnable_line}
 use Rattle.run_laws.proofs.RunWalks.{FitsLine, item_at}
 use Rattle.run_laws.proofs.RunsReached.{AreSound, command_sound, line_fits, none_sound}
 use Rattle.way_laws.proofs.CoreRungs.{IsRungCore, core_rung, new_core_rung}
-use Rattle.way_laws.proofs.Noted.{noted_kept}
 
 -- each core has sound rings
 abbrev AreRung : List NamedCoreState → Type 0
@@ -34,20 +34,20 @@ module _ (answer : ImageAnswer) (run : RunState) (sound : AreSound run.objects) 
       (item_at (λ (named : NamedCoreState). IsRungCore named.core) run.objects.cores place on at.found are) run.objects.is_quiet wanted fits) are
   next_rung came fits fit = are
 
-record Stands (run : RunState) (nothing : Unit {0}) : Type 0 where
+record Stands (run : RunState) : Type 0 where
   pub sound : AreSound run.objects
   pub cores : AreRung run.objects.cores
 
-run_rung : (told : Told) (commands : List Command) → AreRunnable commands → AreRung (run_of told commands).last.objects.cores
+run_rung : (told : StoreAnswers) (commands : List Command) → AreRunnable commands → AreRung (run_of told commands).last.objects.cores
 run_rung told commands runs =
-    (noted_kept (λ answer before asked after nothing. tt) Stands
-    (λ answer run asked nothing may stands. record {
+    (state_kept IsRunnable (λ answer. Unit {0}) Stands
+    (λ answer run asked any may stands. record {
       sound = command_sound answer run asked may stands.sound;
       cores = next_rung answer run stands.sound stands.cores (outcome answer run asked) (line_fits asked may) (runnable_line asked may);
     })
-    told new_run commands tt runs (record { sound = none_sound; cores = All-nil (λ (named : NamedCoreState). IsRungCore named.core) })).cores
+    told new_run commands (any_answers told) (each_is (λ asked may. may) commands runs) (record { sound = none_sound; cores = All-nil (λ (named : NamedCoreState). IsRungCore named.core) })).cores
 
-module _ (told : Told) (commands : List Command) (place : ℕ) (on : NamedCoreState) (runs : AreRunnable commands) (found : slice_get (run_of told commands).last.objects.cores place ≡ Some on) where
+module _ (told : StoreAnswers) (commands : List Command) (place : ℕ) (on : NamedCoreState) (runs : AreRunnable commands) (found : slice_get (run_of told commands).last.objects.cores place ≡ Some on) where
   rung : IsRungCore on.core
   rung = item_at (λ (named : NamedCoreState). IsRungCore named.core) (run_of told commands).last.objects.cores place on found (run_rung told commands runs)
 

@@ -19,7 +19,7 @@ use Rattle.link_commands.specs.Acts.{line_of}
 use Rattle.command_run.specs.CoreCommands.{core_effect}
 use Rattle.command_run.specs.NamedCores.{NamedCoreState}
 use Rattle.command_run.specs.Runs.{RunEffect, RunState, core_place, run_of}
-use Rattle.command_run.specs.Stores.{Told}
+use Rattle.command_run.specs.Stores.{StoreAnswers}
 use Rattle.run_laws.proofs.CommandWalks.{ActsOnCore, ActsOnLink, CommandOutcome, HasNoRoom, IsNameless, MakesCore, MakesLink, NamesNothing, made_core, outcome}
 use Rattle.run_laws.proofs.CoreWalks.{FitsNamed}
 use Rattle.run_laws.proofs.CoresReady.{IsSoundCore}
@@ -81,7 +81,7 @@ new_level end (Some made) none = subst (λ (bench : Option BenchState). TaleIf e
 
 -- ---- runs
 
-run_tales : (end : End) (place : ℕ) (told : Told) (commands : List Command) → AreRunnable commands
+run_tales : (end : End) (place : ℕ) (told : StoreAnswers) (commands : List Command) → AreRunnable commands
     → AreLevel (Tells end) (slice_get (run_of told commands).last.objects.cores place) (core_account_of end place told commands)
 run_tales end place =
     run_level (λ run. run.objects.cores) (Tells end) place (core_accounting end place)
@@ -92,16 +92,16 @@ run_tales end place =
     (new_level end _))
     refl
 
-tale : (end : End) (told : Told) (commands : List Command) (place : ℕ) (on : NamedCoreState) → AreRunnable commands → slice_get (run_of told commands).last.objects.cores place ≡ Some on
+tale : (end : End) (told : StoreAnswers) (commands : List Command) (place : ℕ) (on : NamedCoreState) → AreRunnable commands → slice_get (run_of told commands).last.objects.cores place ≡ Some on
     → TaleIf end on.core.bench (core_account_of end place told commands)
 tale end told commands place on runs found =
     subst (λ (there : Option NamedCoreState). AreLevel (Tells end) there (core_account_of end place told commands)) found (run_tales end place told commands runs)
 
-pub cores_told : (end : End) (told : Told) (commands : List Command) (place : ℕ) (on : NamedCoreState) → AreRunnable commands → slice_get (run_of told commands).last.objects.cores place ≡ Some on
+pub cores_are_told : (end : End) (told : StoreAnswers) (commands : List Command) (place : ℕ) (on : NamedCoreState) → AreRunnable commands → slice_get (run_of told commands).last.objects.cores place ≡ Some on
     → IfSome on.core.bench (λ (bench : BenchState). IsSomeAnd (core_account_of end place told commands) (IsAccount end (link_in bench)))
-cores_told end told commands place on runs found = told_if end on.core.bench (core_account_of end place told commands) (tale end told commands place on runs found)
+cores_are_told end told commands place on runs found = told_if end on.core.bench (core_account_of end place told commands) (tale end told commands place on runs found)
 
 -- the link of a core comes by the way of its account
-pub cores_come : (told : Told) (commands : List Command) (place : ℕ) (on : NamedCoreState) → AreRunnable commands → slice_get (run_of told commands).last.objects.cores place ≡ Some on
+pub cores_come : (told : StoreAnswers) (commands : List Command) (place : ℕ) (on : NamedCoreState) → AreRunnable commands → slice_get (run_of told commands).last.objects.cores place ≡ Some on
     → IfSome on.core.bench (λ (bench : BenchState). ComesFromOpening (link_in bench))
 cores_come told commands place on runs found = come_if side.Host on.core.bench (core_account_of side.Host place told commands) (tale side.Host told commands place on runs found)

@@ -21,7 +21,7 @@ use Rattle.link_commands.specs.NamedLinks.{NamedLink}
 use Rattle.command_run.specs.CoreCommands.{core_act_effect, core_effect}
 use Rattle.command_run.specs.NamedCores.{NamedCoreState}
 use Rattle.command_run.specs.Runs.{RunEffect, RunState, core_place, effect_of, line_effect, name_effect, place_of, run_of}
-use Rattle.command_run.specs.Stores.{Told}
+use Rattle.command_run.specs.Stores.{StoreAnswers}
 use Rattle.run_laws.proofs.CommandWalks.{core_acts, link_acts}
 use Rattle.run_laws.proofs.CoreWalks.{FitsNamed}
 use Rattle.run_laws.proofs.CoresReady.{IsSoundCore}
@@ -74,10 +74,10 @@ linkless run name (Some at) placed none =
     absurd (true≢false (sym none ∙ stands (λ (named : NamedLink). bytes_eq named.name name) run.objects.links at placed))
 
 module _ (answer : ImageAnswer) (run : RunState) (place : ℕ) (on : NamedCoreState) (found : slice_get run.objects.cores place ≡ Some on) where
-  core_named : (name : List ℕ) (act wanted : NamedAct (List ℕ)) (unlinked : Bool) → is_unlinked run name ≡ unlinked → cond (unlinked && is_place (core_place run.objects.cores name) place) (Some act) None ≡ Some wanted
+  core_under : (name : List ℕ) (act wanted : NamedAct (List ℕ)) (unlinked : Bool) → is_unlinked run name ≡ unlinked → cond (unlinked && is_place (core_place run.objects.cores name) place) (Some act) None ≡ Some wanted
       → (name_effect answer run name act).events ≡ (core_effect run.objects.images answer run.objects.is_quiet on run.steps wanted).events
-  core_named name act wanted false none is = absurd (cc)
-  core_named name act wanted true none is =
+  core_under name act wanted false none is = absurd (cc)
+  core_under name act wanted true none is =
       let made = chosen (is_place (core_place run.objects.cores name) place) act wanted is in
       ap (λ (effect : RunEffect). effect.events)
       (core_acts answer run name act place on
@@ -89,7 +89,7 @@ module _ (answer : ImageAnswer) (run : RunState) (place : ℕ) (on : NamedCoreSt
   core_line (line.Image name lines) wanted is = absurd (cc)
   core_line (line.Quiet set) wanted is = absurd (cc)
   core_line (line.Dump name image) wanted is = absurd (cc)
-  core_line (line.On name act) wanted is = core_named name act wanted (is_unlinked run name) refl is
+  core_line (line.On name act) wanted is = core_under name act wanted (is_unlinked run name) refl is
 
   pub core_tells : (asked : Command) (wanted : NamedAct (List ℕ)) → core_act_at run place (line_of asked) ≡ Some wanted
       → (effect_of answer run asked).events ≡ (core_effect run.objects.images answer run.objects.is_quiet on run.steps wanted).events
@@ -98,7 +98,7 @@ module _ (answer : ImageAnswer) (run : RunState) (place : ℕ) (on : NamedCoreSt
 
 -- ---- the commands of a run
 
-module _ (told : Told) (commands : List Command) (runs : AreRunnable commands) (answer : ImageAnswer) (asked : Command) (may : IsRunnable asked) (place : ℕ) where
+module _ (told : StoreAnswers) (commands : List Command) (runs : AreRunnable commands) (answer : ImageAnswer) (asked : Command) (may : IsRunnable asked) (place : ℕ) where
   abbrev run : RunState
   run = (run_of told commands).last
 

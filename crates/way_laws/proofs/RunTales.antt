@@ -21,7 +21,7 @@ use Rattle.link_commands.specs.Acts.{line_of}
 use Rattle.link_commands.specs.LinkCommands.{link_effect}
 use Rattle.link_commands.specs.NamedLinks.{NamedLink}
 use Rattle.command_run.specs.Runs.{RunEffect, RunState, effect_of, place_of, run_of}
-use Rattle.command_run.specs.Stores.{Told}
+use Rattle.command_run.specs.Stores.{StoreAnswers}
 use Rattle.run_laws.proofs.CommandWalks.{ActsOnCore, ActsOnLink, CommandOutcome, HasNoRoom, MakesCore, MakesLink, NamesNothing, made_link, outcome}
 use Rattle.run_laws.proofs.CoreWalks.{FitsNamed}
 use Rattle.run_laws.proofs.RunnableLines.{IsRunnableLine, runnable_line}
@@ -86,7 +86,7 @@ new_level end (Some made) begins = begins
 
 -- ---- runs
 
-run_tales : (end : End) (place : ℕ) (told : Told) (commands : List Command) → AreRunnable commands
+run_tales : (end : End) (place : ℕ) (told : StoreAnswers) (commands : List Command) → AreRunnable commands
     → AreLevel (Tells end) (slice_get (run_of told commands).last.objects.links place) (account_of end place told commands)
 run_tales end place =
     run_level (λ run. run.objects.links) (Tells end) place (accounting end place)
@@ -102,7 +102,7 @@ tale_of : (end : End) (bench : BenchState) (account : Option Account) → IsSome
 tale_of end bench None is = absurd is
 tale_of end bench (Some account) is = (is.tale, is.sound)
 
-module _ (told : Told) (commands : List Command) (place : ℕ) (on : NamedLink) (runs : AreRunnable commands) (found : slice_get (run_of told commands).last.objects.links place ≡ Some on) where
+module _ (told : StoreAnswers) (commands : List Command) (place : ℕ) (on : NamedLink) (runs : AreRunnable commands) (found : slice_get (run_of told commands).last.objects.links place ≡ Some on) where
   tale : (end : End) → TaleIf end (Some on.bench) (account_of end place told commands) × HasSoundRings on.bench.rings
   tale end =
       tale_of end on.bench (account_of end place told commands)
@@ -115,6 +115,6 @@ module _ (told : Told) (commands : List Command) (place : ℕ) (on : NamedLink) 
   pub links_come : ComesFromOpening (link_in on.bench)
   links_come = come_if side.Host (Some on.bench) (account_of side.Host place told commands) (tale side.Host).0
 
-pub links_told : (end : End) (told : Told) (commands : List Command) (place : ℕ) (on : NamedLink) → AreRunnable commands → slice_get (run_of told commands).last.objects.links place ≡ Some on
+pub links_are_told : (end : End) (told : StoreAnswers) (commands : List Command) (place : ℕ) (on : NamedLink) → AreRunnable commands → slice_get (run_of told commands).last.objects.links place ≡ Some on
     → IsSomeAnd (account_of end place told commands) (IsAccount end (link_in on.bench))
-links_told end told commands place on runs found = told_if end (Some on.bench) (account_of end place told commands) (tale told commands place on runs found end).0
+links_are_told end told commands place on runs found = told_if end (Some on.bench) (account_of end place told commands) (tale told commands place on runs found end).0

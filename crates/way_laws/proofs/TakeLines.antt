@@ -29,8 +29,8 @@ use Rattle.link_bench.specs.declared.turns.TurnEnd.TheVariants as turn_end
 use Rattle.link_bench.specs.Acts.{IsFitAct, link_act}
 use Rattle.link_bench.specs.Benches.{BenchState, link_in}
 use Rattle.link_bench.specs.Watchers.{nobody_sees}
-use Rattle.core_actors.specs.declared.progress.Driven.{Driven}
-use Rattle.core_actors.specs.declared.progress.Driven.TheVariants as driven
+use Rattle.core_actors.specs.declared.progress.DriveOutcome.{DriveOutcome}
+use Rattle.core_actors.specs.declared.progress.DriveOutcome.TheVariants as driven
 use Rattle.core_actors.specs.ActorEnds.{actors_after_end}
 use Rattle.core_laws.specs.BenchMoves.{IsReachedBench, IsReachedCore}
 use Rattle.core_laws.specs.DriveParts.{MayDrive}
@@ -48,7 +48,7 @@ use Rattle.way_laws.specs.CoreAccounts.{core_act_deeds}
 use Rattle.way_laws.specs.WordedTakes.{AreLinesOfTakes, ComesFromOpening, IsLineOfTake, is_of_calls, is_take_line}
 use Rattle.way_laws.proofs.DrivenTakes.{drive_told}
 use Rattle.way_laws.proofs.DrivenWords.{DrivenTakesOne, drive_once}
-use Rattle.way_laws.proofs.Worded.{IsNoTakeEnd, IsWordedAnswer, IsWordedReach, answer_worded, reach_worded}
+use Rattle.way_laws.proofs.WordedLines.{IsNoTakeEnd, IsWordedAnswer, IsWordedReach, answer_worded, reach_worded}
 
 -- none of these events is the line of a take: `TellNoTakes` by cases on the list
 abbrev pub HaveNoTakes : List Event → Type 0
@@ -169,7 +169,7 @@ module _ (name : List ℕ) (is_quiet : Bool) (deeds : Deeds) where
   crash_lines why None = (other_line name deeds (event.Crashed name why) refl, tt)
   crash_lines why (Some inc) = other_lines name deeds (crash_events name why (Some inc)) (refl, (refl, tt))
 
-  driven_lines : (came : Driven) (found : Option BenchState) → DrivenTakesOne came found → ((end : End) → deeds.takes end ≡ driven_takes came found end)
+  driven_lines : (came : DriveOutcome) (found : Option BenchState) → DrivenTakesOne came found → ((end : End) → deeds.takes end ≡ driven_takes came found end)
       → AreLinesOfTakes deeds.takes name (driven_events name is_quiet found came)
   driven_lines driven.Idle found one tells = all_lines name deeds [] tt
   driven_lines driven.Stepped found one tells = all_lines name deeds [] tt

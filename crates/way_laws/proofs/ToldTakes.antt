@@ -26,7 +26,7 @@ use Rattle.command_run.specs.CoreCommands.{core_act_effect, core_effect}
 use Rattle.command_run.specs.CoreLinks.{core_link_effect}
 use Rattle.command_run.specs.NamedCores.{NamedCoreState}
 use Rattle.command_run.specs.Runs.{RunState, effect_of, run_of}
-use Rattle.command_run.specs.Stores.{Told}
+use Rattle.command_run.specs.Stores.{StoreAnswers}
 use Rattle.run_laws.proofs.CoresReady.{IsSoundCore}
 use Rattle.run_laws.proofs.RunWalks.{item_at}
 use Rattle.run_laws.proofs.RunsReached.{run_sound}
@@ -40,7 +40,7 @@ use Rattle.way_laws.proofs.OtherLines.{no_takes}
 use Rattle.way_laws.proofs.RunCoreTales.{cores_come}
 use Rattle.way_laws.proofs.RunLines.{core_tells, link_tells}
 use Rattle.way_laws.proofs.TakeLines.{turns_none}
-use Rattle.way_laws.proofs.Worded.{pump_ends}
+use Rattle.way_laws.proofs.WordedLines.{pump_ends}
 
 -- a call of an act on a link of the script that ended as a take
 pub act_told : (found : ImageAnswer) (run : RunState) (asked : Command) (place : ℕ) (act : LinkAct (List ℕ)) (on : NamedLink) (caller number : ℕ) (judged : Verdict)
@@ -89,7 +89,7 @@ core_pump_told found run asked place act on bench done came has linked does pump
     subst TellNoTakes (sym told) (no_takes _ (turns_none on.name (link_in acted.bench) done came (pump_ends actors_after_end bench on.core.actors run.steps 2 act done came pumped)))
 
 -- a drive of a core
-pub drive_told : (told : Told) (commands : List Command) (found : ImageAnswer) (asked : Command) (place count caller : ℕ) (on : NamedCoreState) → AreRunnable commands
+pub drive_told : (told : StoreAnswers) (commands : List Command) (found : ImageAnswer) (asked : Command) (place count caller : ℕ) (on : NamedCoreState) → AreRunnable commands
     → let run = (run_of told commands).last in
     slice_get run.objects.cores place ≡ Some on → core_act_at run place (line_of asked) ≡ Some (under.Core (core.Drive count))
     → lines_of caller (effect_of found run asked).events ≡ drive_lines run.objects.is_quiet on.name caller (core_takes on run.steps (under.Core (core.Drive count)))

@@ -15,7 +15,7 @@ use Rattle.link_commands.specs.Acts.{line_of}
 use Rattle.link_commands.specs.NamedLinks.{NamedLink}
 use Rattle.command_run.specs.NamedCores.{NamedCoreState}
 use Rattle.command_run.specs.Runs.{RunState, run_of}
-use Rattle.command_run.specs.Stores.{Told}
+use Rattle.command_run.specs.Stores.{StoreAnswers}
 use Rattle.way_laws.specs.CoreAccounts.{core_act_deeds, core_act_at, drive_takes}
 use Rattle.way_laws.specs.RunAccounts.{link_act_at, named_takes}
 use Rattle.way_laws.specs.WordedTakes.{IsLineAmong, IsLineOfTake, is_take_line}
@@ -60,7 +60,7 @@ abbrev pub AreTakesOfRun : RunState → Line (List RecipeLine) (List ℕ) → Li
 AreTakesOfRun run done events = All (λ (event : Event). is_take_line event ≡ true → IsTakeOfLink run done event ⊎ IsTakeOfCore run done event) events
 
 -- an event is the line of a take in the run of these commands: behind the first of them, one that is next has told a handing, on a link of the run then or on that of a core, of which it is the line
-pub record IsTakeInRun (told : Told) (commands : List Command) (event : Event) : Type 0 where
+pub record IsTakeInRun (told : StoreAnswers) (commands : List Command) (event : Event) : Type 0 where
   pub done : List Command
   pub next : Command
   pub more : List Command

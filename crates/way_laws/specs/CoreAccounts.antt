@@ -31,12 +31,12 @@ use Rattle.command_run.specs.CoreLives.{booted_image, found_image, may_step}
 use Rattle.command_run.specs.NamedCores.{NamedCoreState}
 use Rattle.command_run.specs.NamedImages.{ImageState}
 use Rattle.command_run.specs.Runs.{RunState, core_place, new_run, place_of}
-use Rattle.command_run.specs.Stores.{Told}
-use Rattle.run_laws.specs.Drives.{drive_made}
+use Rattle.command_run.specs.Stores.{StoreAnswers}
+use Rattle.run_laws.specs.Drives.{drive_length_within}
 use Rattle.act_laws.specs.Accounts.{Account, new_account, with_deeds}
 use Rattle.act_laws.specs.CoreDeeds.{drive_deeds, ready_deeds, reported_deeds}
 use Rattle.act_laws.specs.Deeds.{Deeds, act_deeds, no_deeds}
-use Rattle.way_laws.specs.Notes.{Noting, notes_from}
+use Rattle.run_laws.specs.Notes.{Noting, notes_from}
 use Rattle.way_laws.specs.RunAccounts.{is_place}
 
 -- deeds on the link that a core has, if it has one
@@ -81,7 +81,7 @@ steps_account end (suc more) on account = steps_account end more (drive_step on)
 
 -- behind a drive of so many steps, of which fewer are made where the core rests or the run has no step left
 abbrev pub drive_account : End → ℕ → CoreState → ℕ → Option Account → Option Account
-drive_account end count on steps account = steps_account end (drive_made count on steps) on account
+drive_account end count on steps account = steps_account end (drive_length_within count on steps) on account
 
 -- what the first steps of the actors tell of takes at each end, one after the other
 unfoldable pub steps_takes : ℕ → CoreState → End → List Handing
@@ -90,7 +90,7 @@ steps_takes (suc more) on end = (drive_deeds on).takes end ++ steps_takes more (
 
 -- the same of such a drive
 abbrev pub drive_takes : ℕ → CoreState → ℕ → End → List Handing
-drive_takes count on steps = steps_takes (drive_made count on steps) on
+drive_takes count on steps = steps_takes (drive_length_within count on steps) on
 
 -- behind an act on a core
 abbrev pub life_account : End → List ImageState → ImageAnswer → NamedCoreState → ℕ → CoreAct → Option Account → Option Account
@@ -147,5 +147,5 @@ abbrev pub core_accounting : End → ℕ → Noting (Option Account)
 core_accounting end place answer before asked after account = next_core_account end place answer before (line_of asked) (slice_get before.objects.cores place) account
 
 -- the account of the link of the core at a place of a run, at one of its ends
-abbrev pub core_account_of : End → ℕ → Told → List Command → Option Account
+abbrev pub core_account_of : End → ℕ → StoreAnswers → List Command → Option Account
 core_account_of end place told commands = notes_from (core_accounting end place) told new_run commands None

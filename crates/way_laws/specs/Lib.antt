@@ -1,4 +1,3 @@
-pub mod Notes
 pub mod RunAccounts
 pub mod CoreAccounts
 pub mod WordedTakes

@@ -19,10 +19,10 @@ use Rattle.link_commands.specs.declared.acts.NamedAct.TheVariants as under
 use Rattle.link_commands.specs.Acts.{line_of}
 use Rattle.link_commands.specs.NamedLinks.{NamedLink}
 use Rattle.command_run.specs.Runs.{RunState, new_run, place_of}
-use Rattle.command_run.specs.Stores.{Told}
+use Rattle.command_run.specs.Stores.{StoreAnswers}
 use Rattle.act_laws.specs.Accounts.{Account, new_account, with_deeds}
 use Rattle.act_laws.specs.Deeds.{Deeds, act_deeds, no_deeds, one_move}
-use Rattle.way_laws.specs.Notes.{Noting, notes_from}
+use Rattle.run_laws.specs.Notes.{Noting, notes_from}
 
 -- `close X`: a step of the run, where it has one left
 abbrev pub close_deeds : BenchState → ℕ → Deeds
@@ -76,5 +76,5 @@ abbrev pub accounting : End → ℕ → Noting (Option Account)
 accounting end place answer before asked after account = next_account end place before (line_of asked) after (slice_get before.objects.links place) account
 
 -- the account of the link at a place of a run, at one of its ends
-abbrev pub account_of : End → ℕ → Told → List Command → Option Account
+abbrev pub account_of : End → ℕ → StoreAnswers → List Command → Option Account
 account_of end place told commands = notes_from (accounting end place) told new_run commands None

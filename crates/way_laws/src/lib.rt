@@ -4,5 +4,5 @@
 mod runs;
 
 pub use runs::{
-    cores_told, lines_have_takes, links_own, links_told, takes_are_worded, takes_have_lines,
+    cores_are_told, lines_have_takes, links_are_told, links_own, takes_are_worded, takes_have_lines,
 };

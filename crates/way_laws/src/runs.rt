@@ -18,7 +18,7 @@ ghost use Rattle.link_bench.specs.declared.benches.Reach.TheVariants as reach;
 ghost use Rattle.link_bench.specs.declared.turns.TurnEnd.{TurnEnd};
 ghost use Rattle.link_bench.specs.Acts.{IsFitAct, link_act};
 ghost use Rattle.link_bench.specs.Watchers.{nobody_sees};
-ghost use Rattle.core_actors.specs.declared.progress.Driven.TheVariants as driven;
+ghost use Rattle.core_actors.specs.declared.progress.DriveOutcome.TheVariants as driven;
 ghost use Rattle.core_laws.specs.BenchMoves.{IsReachedBench, IsReachedCore};
 ghost use Rattle.core_laws.specs.DriveParts.{MayDrive};
 ghost use Rattle.journal.specs.declared.events.Event.{Event};
@@ -33,7 +33,7 @@ ghost use Rattle.command_run.specs.NamedCores.{NamedCoreState};
 ghost use Rattle.link_commands.specs.NamedLinks.{NamedLink};
 ghost use Rattle.command_run.specs.CoreDrives.{step_events};
 ghost use Rattle.command_run.specs.Runs.{RunState, core_place, effect_of, place_of, run_of};
-ghost use Rattle.command_run.specs.Stores.{Told};
+ghost use Rattle.command_run.specs.Stores.{StoreAnswers};
 ghost use Rattle.link_commands.specs.declared.acts.CoreAct.TheVariants as core;
 ghost use Rattle.link_commands.specs.declared.acts.Line.TheVariants as line;
 ghost use Rattle.link_commands.specs.declared.acts.NamedAct.{NamedAct};
@@ -50,24 +50,24 @@ ghost use Rattle.way_laws.specs.WordedTakes.{AreLinesAmong, AreLinesOfTakes, Com
 /// reopened; and what the run told of takes on it since then, at an end of it, is what those moves handed over there, in order and each once,
 /// with number, sender, bytes and verdict: all but what a taker in its last step is yet to tell, or one that was reclaimed. Once the link is
 /// closed nothing more is handed over, and one take at most is told at each end, of a message that was handed over before.
-pub fn links_told()
-    ensures { (end : End) (told : Told) (commands : List Command) (place : ℕ) (on : NamedLink) → AreRunnable commands
+pub fn links_are_told()
+    ensures { (end : End) (told : StoreAnswers) (commands : List Command) (place : ℕ) (on : NamedLink) → AreRunnable commands
         → slice_get (run_of told commands).last.objects.links place ≡ Some on → IsSomeAnd (account_of end place told commands) (IsAccount end (link_in on.bench)) }
 {}
 
 /// The same of the link of each core of a run, from its boot or last recovery on: the run's own moves are those of the core's actors, of its crash and of
 /// the acts that the script asks for.
-pub fn cores_told()
-    ensures { (end : End) (told : Told) (commands : List Command) (place : ℕ) (on : NamedCoreState) → AreRunnable commands
+pub fn cores_are_told()
+    ensures { (end : End) (told : StoreAnswers) (commands : List Command) (place : ℕ) (on : NamedCoreState) → AreRunnable commands
         → slice_get (run_of told commands).last.objects.cores place ≡ Some on
         → IfSome on.core.bench (λ (bench : BenchState). IsSomeAnd (core_account_of end place told commands) (IsAccount end (link_in bench))) }
 {}
 
 /// After each list of commands the rings of each link of the run, and those of the link of each core, are sound, so that each buffer has one owner.
 pub fn links_own()
-    ensures rings { (told : Told) (commands : List Command) (place : ℕ) (on : NamedLink) → AreRunnable commands
+    ensures rings { (told : StoreAnswers) (commands : List Command) (place : ℕ) (on : NamedLink) → AreRunnable commands
         → slice_get (run_of told commands).last.objects.links place ≡ Some on → HasSoundRings on.bench.rings }
-    ensures core_rings { (told : Told) (commands : List Command) (place : ℕ) (on : NamedCoreState) → AreRunnable commands
+    ensures core_rings { (told : StoreAnswers) (commands : List Command) (place : ℕ) (on : NamedCoreState) → AreRunnable commands
         → slice_get (run_of told commands).last.objects.cores place ≡ Some on → IfSome on.core.bench (λ (bench : BenchState). HasSoundRings bench.rings) }
 {}
 
@@ -102,9 +102,9 @@ pub fn takes_are_worded()
         → MayDrive core → IsReachedCore core → IfSome core.bench (λ (bench : BenchState). ComesFromOpening (link_in bench))
         → (drive_step core).driven ≡ driven.Ended caller (call_end.Took number judged)
         → IsSomeAnd (drive_step core).core.bench (λ (left : BenchState). IsWordedTake (drive_deeds core).takes (link_in left) caller number judged) }
-    ensures links_come { (told : Told) (commands : List Command) (place : ℕ) (on : NamedLink) → AreRunnable commands
+    ensures links_come { (told : StoreAnswers) (commands : List Command) (place : ℕ) (on : NamedLink) → AreRunnable commands
         → slice_get (run_of told commands).last.objects.links place ≡ Some on → ComesFromOpening (link_in on.bench) }
-    ensures cores_come { (told : Told) (commands : List Command) (place : ℕ) (on : NamedCoreState) → AreRunnable commands
+    ensures cores_come { (told : StoreAnswers) (commands : List Command) (place : ℕ) (on : NamedCoreState) → AreRunnable commands
         → slice_get (run_of told commands).last.objects.cores place ≡ Some on → IfSome on.core.bench (λ (bench : BenchState). ComesFromOpening (link_in bench)) }
 {}
 
@@ -115,17 +115,17 @@ pub fn takes_are_worded()
 /// of a run tells is that of a handing which the command tells at an end of a link of the run, or of the link of a core. And so each line of
 /// a take in a whole run is that of a handing which the command that is next behind others tells so.
 pub fn lines_have_takes()
-    ensures link { (told : Told) (commands : List Command) (answer : ImageAnswer) (asked : Command) (place : ℕ) (wanted : NamedAct (List ℕ)) (on : NamedLink)
+    ensures link { (told : StoreAnswers) (commands : List Command) (answer : ImageAnswer) (asked : Command) (place : ℕ) (wanted : NamedAct (List ℕ)) (on : NamedLink)
         → AreRunnable commands → IsRunnable asked
         → let run = (run_of told commands).last in
         slice_get run.objects.links place ≡ Some on → link_act_at run place (line_of asked) ≡ Some wanted
         → AreLinesOfTakes (named_takes on.bench run.steps wanted) on.name (effect_of answer run asked).events }
-    ensures of_core { (told : Told) (commands : List Command) (answer : ImageAnswer) (asked : Command) (place : ℕ) (act : LinkAct (List ℕ)) (on : NamedCoreState)
+    ensures of_core { (told : StoreAnswers) (commands : List Command) (answer : ImageAnswer) (asked : Command) (place : ℕ) (act : LinkAct (List ℕ)) (on : NamedCoreState)
         → AreRunnable commands → IsRunnable asked
         → let run = (run_of told commands).last in
         slice_get run.objects.cores place ≡ Some on → core_act_at run place (line_of asked) ≡ Some (under.Link act)
         → AreLinesOfTakes (core_act_deeds on.core on.core.bench run.steps act).takes on.name (effect_of answer run asked).events }
-    ensures drive { (told : Told) (commands : List Command) (answer : ImageAnswer) (asked : Command) (place count : ℕ) (on : NamedCoreState)
+    ensures drive { (told : StoreAnswers) (commands : List Command) (answer : ImageAnswer) (asked : Command) (place count : ℕ) (on : NamedCoreState)
         → AreRunnable commands → IsRunnable asked
         → let run = (run_of told commands).last in
         slice_get run.objects.cores place ≡ Some on → core_act_at run place (line_of asked) ≡ Some (under.Core (core.Drive count))
@@ -136,7 +136,7 @@ pub fn lines_have_takes()
     ensures drive_adds { (end : End) (count : ℕ) (core : CoreState) (steps : ℕ) (account : Option Account)
         → option_map (λ (now : Account). now.told) (drive_account end count core steps account)
         ≡ option_map (λ (now : Account). now.told ++ drive_takes count core steps end) account }
-    ensures named_core { (told : Told) (commands : List Command) (answer : ImageAnswer) (asked : Command) (place : ℕ) (wanted : NamedAct (List ℕ)) (on : NamedCoreState)
+    ensures named_core { (told : StoreAnswers) (commands : List Command) (answer : ImageAnswer) (asked : Command) (place : ℕ) (wanted : NamedAct (List ℕ)) (on : NamedCoreState)
         → AreRunnable commands → IsRunnable asked
         → let run = (run_of told commands).last in
         slice_get run.objects.cores place ≡ Some on → core_act_at run place (line_of asked) ≡ Some wanted
@@ -144,9 +144,9 @@ pub fn lines_have_takes()
     ensures others { (answer : ImageAnswer) (run : RunState) (asked : Command) → line_may_take (line_of asked) ≡ false → TellNoTakes (effect_of answer run asked).events }
     ensures nameless { (answer : ImageAnswer) (run : RunState) (asked : Command) (name : List ℕ) (wanted : NamedAct (List ℕ)) → line_of asked ≡ line.On name wanted
         → place_of run.objects.links name ≡ None → core_place run.objects.cores name ≡ None → TellNoTakes (effect_of answer run asked).events }
-    ensures every { (told : Told) (commands : List Command) (answer : ImageAnswer) (asked : Command) → AreRunnable commands → IsRunnable asked
+    ensures every { (told : StoreAnswers) (commands : List Command) (answer : ImageAnswer) (asked : Command) → AreRunnable commands → IsRunnable asked
         → let run = (run_of told commands).last in AreTakesOfRun run (line_of asked) (effect_of answer run asked).events }
-    ensures whole { (told : Told) (commands : List Command) → AreRunnable commands
+    ensures whole { (told : StoreAnswers) (commands : List Command) → AreRunnable commands
         → All (λ (event : Event). is_take_line event ≡ true → IsTakeInRun told commands event) (run_of told commands).events }
 {}
 
@@ -170,7 +170,7 @@ pub fn takes_have_lines()
     ensures pump_of_core { (found : ImageAnswer) (run : RunState) (asked : Command) (place : ℕ) (act : LinkAct (List ℕ)) (on : NamedCoreState) (bench : BenchState) (done : ℕ) (came : TurnEnd)
         → slice_get run.objects.cores place ≡ Some on → on.core.bench ≡ Some bench → core_act_at run place (line_of asked) ≡ Some (under.Link act)
         → (act_on_core on.core bench run.steps act).answer ≡ answer.Pumped done came → TellNoTakes (effect_of found run asked).events }
-    ensures drive { (told : Told) (commands : List Command) (found : ImageAnswer) (asked : Command) (place count caller : ℕ) (on : NamedCoreState) → AreRunnable commands
+    ensures drive { (told : StoreAnswers) (commands : List Command) (found : ImageAnswer) (asked : Command) (place count caller : ℕ) (on : NamedCoreState) → AreRunnable commands
         → let run = (run_of told commands).last in
         slice_get run.objects.cores place ≡ Some on → core_act_at run place (line_of asked) ≡ Some (under.Core (core.Drive count))
         → lines_of caller (effect_of found run asked).events ≡ drive_lines run.objects.is_quiet on.name caller (core_takes on run.steps (under.Core (core.Drive count))) }

@@ -7,7 +7,7 @@ use Rattle.rp_io.specs.declared.faults.NoImage.TheVariants as no_image
 use Rattle.rp_io.specs.declared.faults.StoreFault.{StoreFault}
 use Rattle.rp_io.specs.declared.faults.StoreFault.TheVariants as store_fault
 use Rattle.command_run.specs.declared.fetches.FoundImage.{FoundImage}
-use Rattle.command_run.specs.CoreLives.{found_or_told, image_bytes}
+use Rattle.command_run.specs.CoreLives.{image_or, image_bytes}
 use Rattle.command_run.proofs.AskedNames.{asked_outside, made_none, not_outside}
 use Rattle.command_run.proofs.fetches.find_image.Goals as goal
 
@@ -20,7 +20,7 @@ returns-in-Some-clause-told g c =
     record {
       answer = Err no_image.Missing;
       is = subst (λ (asked : Option (List ℕ)). IsToldFor images asked (Err no_image.Missing)) (sym (not_outside made name c.in-Some.bytes.now is)) refl;
-      image = sym (ap (found_or_told (Err no_image.Missing)) is);
+      image = sym (ap (image_or (Err no_image.Missing)) is);
     }
 
 pub returns-in_err-look_up_bytes-clause-asked : goal.returns-in_err-look_up_bytes-clause-asked
@@ -50,7 +50,7 @@ returns-clause-told g c =
     record {
       answer = answer;
       is = subst (λ (asked : Option (List ℕ)). IsToldFor images asked answer) (sym (asked_outside made name (made_none made name none))) c.in_ok-look_up_bytes.ensures.told;
-      image = sym (ap (found_or_told answer) none);
+      image = sym (ap (image_or answer) none);
     }
 
 pub returns-clause-unasked : goal.returns-clause-unasked

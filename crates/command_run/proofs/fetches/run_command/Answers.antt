@@ -20,13 +20,13 @@ use Rattle.command_run.specs.declared.faults.OutputFault.{OutputFault}
 use Rattle.command_run.specs.declared.faults.OutputFault.TheVariants as output_fault
 use Rattle.link_commands.specs.declared.stops.Stop.{Stop}
 use Rattle.link_commands.specs.Logs.{LogState}
-use Rattle.command_run.specs.Outcomes.{CutsRun, HandsRunEffect}
+use Rattle.command_run.specs.Outcomes.{CutsRun, HandsRunEffect, HasRunEffect}
 use Rattle.command_run.specs.Faults.{output_command_fault}
-use Rattle.command_run.specs.Fetches.{EndsCut, IfSinkFailed, KeepsDrive, KeepsDriven, RunsTold, drive_line}
-use Rattle.command_run.specs.Runs.{ObjectsState, RunEffect, RunState, act_asks, asked_name, core_act, effect_of, name_effect}
+use Rattle.command_run.specs.Fetches.{DidTold, EndsCut, IfSinkFailed, KeepsDrive, KeepsDriven, RunsTold, drive_line}
+use Rattle.command_run.specs.Runs.{ObjectsState, RunEffect, RunState, act_asks, asked_name, core_act, effect_of, line_effect, name_effect}
 use Rattle.command_run.specs.Stores.{Shelf, answer_for}
 use Rattle.command_run.proofs.Shelves.{shelf_of}
-use Rattle.command_run.proofs.Started.{core_line, on_core, told_run}
+use Rattle.command_run.proofs.StartEffects.{core_line, on_core, told_run}
 use Rattle.command_run.proofs.fetches.run_command.Goals as goal
 
 module _ (run : RunState) (asking : Command) (name : List ℕ) (count : ℕ) (drives : core_act (line_of asking) ≡ Some (name, core.Drive count)) where
@@ -55,6 +55,16 @@ module _ (run : RunState) (asking : Command) (name : List ℕ) (count : ℕ) (dr
   )
   drive_told images left before after old new faults now was (Err output_fault.NoMemory) did same cut paused =
       ((λ shelf. subst (λ (e : RunEffect). EndsCut output_fault.NoMemory (before.lines ++ transcript e.events) old new faults now) (sym (drive_whole shelf)) cut), refl)
+
+-- what a command is about did what it does, which asks the store for nothing
+told_line : (images : Option (List (List ℕ × List ℕ))) (run : RunState) (asking : Command) (about : Line (List RecipeLine) (List ℕ)) (left : ObjectsState) (before after : LogState) (written : Option (List ℕ)) (ending : Option Stop)
+    → about ≡ line_of asking → asked_name run.objects asking ≡ None → HasRunEffect (line_effect (Err no_image.Missing) run about) left before after ending
+    → DidTold images run asking left before after written written ending
+unfolding effect_of
+told_line images run asking about left before after written ending is none did =
+    told_run images run asking left before after written ending (Err no_image.Missing)
+    (subst (λ (name : Option (List ℕ)). IsToldFor images name (Err no_image.Missing)) (sym none) refl)
+    (subst (λ (about : Line (List RecipeLine) (List ℕ)). HasRunEffect (line_effect (Err no_image.Missing) run about) left before after ending) is did)
 
 -- a drive is told from the other acts on a core
 abbrev is_drive : CoreAct → Bool
@@ -91,7 +101,7 @@ returns-in_ok-drive-in-Drive-clause-less g c =
     let asked = c.args.command.now in
     let found : List ℕ × CoreAct = c.in-Some.name-1-given.0.0 in
     let count = c.in-Drive.count in
-    let drives : core_act (line_of asked) ≡ Some (found.0, core.Drive count) = sym c.in-Some.ensures ∙ ap (λ (act : CoreAct). Some (found.0, act)) c.in-Drive.is in
+    let drives : core_act (line_of asked) ≡ Some (found.0, core.Drive count) = sym (c.in-Some.ensures ∙ ap core_act c.line_of-line.ensures.line) ∙ ap (λ (act : CoreAct). Some (found.0, act)) c.in-Drive.is in
     drive_kept run c.args.log.now c.drive.new.log.lines asked found.0 count (on_core (line_of asked) found.0 (core.Drive count) drives) c.in_ok-drive-in-Drive.ensures.less
 
 pub returns-in_ok-drive-in-Drive-clause-effect : goal.returns-in_ok-drive-in-Drive-clause-effect
@@ -101,7 +111,7 @@ returns-in_ok-drive-in-Drive-clause-effect g c =
     let run : RunState = record { objects = c.args.objects.now; steps = c.args.log.now.steps } in
     let found : List ℕ × CoreAct = c.in-Some.name-1-given.0.0 in
     let told = c.in_ok-drive-in-Drive in
-    drive_told run c.args.command.now found.0 c.in-Drive.count (sym c.in-Some.ensures ∙ ap (λ (act : CoreAct). Some (found.0, act)) c.in-Drive.is)
+    drive_told run c.args.command.now found.0 c.in-Drive.count (sym (c.in-Some.ensures ∙ ap core_act c.line_of-line.ensures.line) ∙ ap (λ (act : CoreAct). Some (found.0, act)) c.in-Drive.is)
     (store.images c.args.store.now) c.drive.new.self c.args.log.now c.drive.new.log (sink.written c.args.out.now) (sink.written c.drive.new.out)
     (sink.faults c.args.out.now) (sink.faults c.drive.new.out) (store.faults c.args.store.now) (Ok told.field-0) told.ensures.effect told.ensures.same tt tt
 
@@ -118,7 +128,7 @@ returns-in_err-drive-in-Drive-clause-effect g c =
     subst (λ (r : Result (Option Stop) CommandFault). RunsTold r held run asked c.drive.new.self c.args.log.now c.drive.new.log (sink.written c.args.out.now) (sink.written c.drive.new.out)
     (sink.faults c.args.out.now) (sink.faults c.drive.new.out) (store.faults c.args.store.now) (store.faults c.args.store.now))
     (sym (answer.1 ∙ ap (λ (why : CommandFault). Err why) answer.2))
-    (drive_told run asked found.0 c.in-Drive.count (sym c.in-Some.ensures ∙ ap (λ (act : CoreAct). Some (found.0, act)) c.in-Drive.is)
+    (drive_told run asked found.0 c.in-Drive.count (sym (c.in-Some.ensures ∙ ap core_act c.line_of-line.ensures.line) ∙ ap (λ (act : CoreAct). Some (found.0, act)) c.in-Drive.is)
     held c.drive.new.self c.args.log.now c.drive.new.log (sink.written c.args.out.now) (sink.written c.drive.new.out)
     (sink.faults c.args.out.now) (sink.faults c.drive.new.out) (store.faults c.args.store.now) (Err cut.field-0.0) tt tt cut.ensures.cut cut.ensures.paused)
 
@@ -126,7 +136,7 @@ pub returns-in_ok-start-in-Start-clause-effect : goal.returns-in_ok-start-in-Sta
 returns-in_ok-start-in-Start-clause-effect g c =
     let sink = g.K.Sink in
     let found : List ℕ × CoreAct = c.in-Some.name-1-given.0.0 in
-    c.in_ok-start-in-Start.ensures.told c.args.command.now (sink.written c.args.out.now) (sink.faults c.args.out.now) (sym c.in-Some.ensures ∙ ap (λ (act : CoreAct). Some (found.0, act)) c.in-Start.is)
+    c.in_ok-start-in-Start.ensures.told c.args.command.now (sink.written c.args.out.now) (sink.faults c.args.out.now) (sym (c.in-Some.ensures ∙ ap core_act c.line_of-line.ensures.line) ∙ ap (λ (act : CoreAct). Some (found.0, act)) c.in-Start.is)
 
 pub returns-in_err-start-in-Start-clause-effect : goal.returns-in_err-start-in-Start-clause-effect
 returns-in_err-start-in-Start-clause-effect g c =
@@ -140,65 +150,65 @@ returns-in_err-start-in-Start-clause-effect g c =
     subst (λ (r : Result (Option Stop) CommandFault). RunsTold r (store.images c.args.store.now) run c.args.command.now c.start.new.self c.args.log.now c.start.new.log written written
     faults faults (store.faults c.args.store.now) (store.faults c.start.new.store))
     (sym (answer.1 ∙ ap (λ (why : CommandFault). Err why) answer.2))
-    (c.in_err-start-in-Start.ensures.told c.args.command.now written faults (sym c.in-Some.ensures ∙ ap (λ (act : CoreAct). Some (found.0, act)) c.in-Start.is))
+    (c.in_err-start-in-Start.ensures.told c.args.command.now written faults (sym (c.in-Some.ensures ∙ ap core_act c.line_of-line.ensures.line) ∙ ap (λ (act : CoreAct). Some (found.0, act)) c.in-Start.is))
 
 pub returns-in_ok-start-in-Start-clause-less : goal.returns-in_ok-start-in-Start-clause-less
 returns-in_ok-start-in-Start-clause-less g c name count drives =
     let asked = c.args.command.now in
     let found : List ℕ × CoreAct = c.in-Some.name-1-given.0.0 in
-    absurd (true≢false (sym (ap (λ (p : List ℕ × CoreAct). is_drive p.1) (same_act asked found name count c.in-Some.ensures drives)) ∙ ap is_drive c.in-Start.is))
+    absurd (true≢false (sym (ap (λ (p : List ℕ × CoreAct). is_drive p.1) (same_act asked found name count (c.in-Some.ensures ∙ ap core_act c.line_of-line.ensures.line) drives)) ∙ ap is_drive c.in-Start.is))
 
 pub returns-in_ok-start-in-Start-clause-unasked : goal.returns-in_ok-start-in-Start-clause-unasked
 returns-in_ok-start-in-Start-clause-unasked g c none =
     let found : List ℕ × CoreAct = c.in-Some.name-1-given.0.0 in
-    c.start.ensures.unasked (sym (ap (act_asks c.args.objects.now) (sym c.in-Some.ensures ∙ ap (λ (act : CoreAct). Some (found.0, act)) c.in-Start.is)) ∙ none)
+    c.start.ensures.unasked (sym (ap (act_asks c.args.objects.now) (sym (c.in-Some.ensures ∙ ap core_act c.line_of-line.ensures.line) ∙ ap (λ (act : CoreAct). Some (found.0, act)) c.in-Start.is)) ∙ none)
 
 pub returns-in_err-start-in-Start-clause-unasked : goal.returns-in_err-start-in-Start-clause-unasked
 returns-in_err-start-in-Start-clause-unasked g c none =
     let found : List ℕ × CoreAct = c.in-Some.name-1-given.0.0 in
-    c.start.ensures.unasked (sym (ap (act_asks c.args.objects.now) (sym c.in-Some.ensures ∙ ap (λ (act : CoreAct). Some (found.0, act)) c.in-Start.is)) ∙ none)
+    c.start.ensures.unasked (sym (ap (act_asks c.args.objects.now) (sym (c.in-Some.ensures ∙ ap core_act c.line_of-line.ensures.line) ∙ ap (λ (act : CoreAct). Some (found.0, act)) c.in-Start.is)) ∙ none)
 
-pub returns-in_ok-run-in_default : goal.returns-in_ok-run-in_default
-returns-in_ok-run-in_default g c =
+pub returns-in_ok-run_line-in_default : goal.returns-in_ok-run_line-in_default
+returns-in_ok-run_line-in_default g c =
     let store = g.F.FirmwareStore in
     let log = c.args.log.now in
     let objects = c.args.objects.now in
     let asked = c.args.command.now in
     let run : RunState = record { objects = objects; steps = log.steps } in
     let held = store.images c.args.store.now in
-    let told = c.in_ok-run-in_default in
+    let told = c.in_ok-run_line-in_default in
     let found : List ℕ × CoreAct = c.in-Some.name-1-given.0.0 in
-    let none : asked_name objects asked ≡ None = ap (act_asks objects) (sym c.in-Some.ensures) ∙ no_start objects found.0 found.1 c.in_default.not-Start in
+    let none : asked_name objects asked ≡ None = ap (act_asks objects) (sym (c.in-Some.ensures ∙ ap core_act c.line_of-line.ensures.line)) ∙ no_start objects found.0 found.1 c.in_default.not-Start in
     record {
       effect = (
-        told_run held run asked c.run.new.self log c.run.new.log (g.K.Sink.written c.args.out.now) told.field-0 (Err no_image.Missing)
-            (subst (λ (name : Option (List ℕ)). IsToldFor held name (Err no_image.Missing)) (sym none) refl) told.ensures,
+        told_line held run asked _ c.run_line.new.self log c.run_line.new.log (g.K.Sink.written c.args.out.now) told.field-0
+            c.line_of-line.ensures.line none told.ensures,
         refl,
         refl,
       );
-      less = λ name count drives. absurd (c.in_default.not-Drive count (ap (λ (p : List ℕ × CoreAct). p.1) (same_act asked found name count c.in-Some.ensures drives)));
+      less = λ name count drives. absurd (c.in_default.not-Drive count (ap (λ (p : List ℕ × CoreAct). p.1) (same_act asked found name count (c.in-Some.ensures ∙ ap core_act c.line_of-line.ensures.line) drives)));
       kept = refl;
       unasked = λ _. refl;
     }
 
-pub returns-in_ok-run-in-None : goal.returns-in_ok-run-in-None
-returns-in_ok-run-in-None g c =
+pub returns-in_ok-run_line-in-None : goal.returns-in_ok-run_line-in-None
+returns-in_ok-run_line-in-None g c =
     let store = g.F.FirmwareStore in
     let log = c.args.log.now in
     let objects = c.args.objects.now in
     let asked = c.args.command.now in
     let run : RunState = record { objects = objects; steps = log.steps } in
     let held = store.images c.args.store.now in
-    let told = c.in_ok-run-in-None in
-    let none : asked_name objects asked ≡ None = ap (act_asks objects) (sym c.in-None.ensures) in
+    let told = c.in_ok-run_line-in-None in
+    let none : asked_name objects asked ≡ None = ap (act_asks objects) (sym (c.in-None.ensures ∙ ap core_act c.line_of-line.ensures.line)) in
     record {
       effect = (
-        told_run held run asked c.run-in-None.new.self log c.run-in-None.new.log (g.K.Sink.written c.args.out.now) told.field-0 (Err no_image.Missing)
-            (subst (λ (name : Option (List ℕ)). IsToldFor held name (Err no_image.Missing)) (sym none) refl) told.ensures,
+        told_line held run asked _ c.run_line-in-None.new.self log c.run_line-in-None.new.log (g.K.Sink.written c.args.out.now) told.field-0
+            c.line_of-line.ensures.line none told.ensures,
         refl,
         refl,
       );
-      less = λ name count drives. absurd (none-some (name, core.Drive count) (c.in-None.ensures ∙ ap core_act drives));
+      less = λ name count drives. absurd (none-some (name, core.Drive count) ((c.in-None.ensures ∙ ap core_act c.line_of-line.ensures.line) ∙ ap core_act drives));
       kept = refl;
       unasked = λ _. refl;
     }

@@ -1,4 +1,4 @@
-use Rattle.core_laws.proofs.Handed.{got_front, got_whole}
+use Rattle.core_laws.proofs.HandedMessages.{got_front, got_whole}
 use Rattle.core_laws.proofs.laws.handed_due.Goals as goal
 
 pub returns : goal.returns

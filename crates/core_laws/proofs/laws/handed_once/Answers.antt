@@ -1,4 +1,4 @@
-use Rattle.core_laws.proofs.Handed.{handed_once}
+use Rattle.core_laws.proofs.HandedMessages.{handed_once}
 use Rattle.core_laws.proofs.laws.handed_once.Goals as goal
 
 pub returns : goal.returns

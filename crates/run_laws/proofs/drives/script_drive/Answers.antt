@@ -1,6 +1,6 @@
 use Rattle.std.proofs.Common.{ap}
 use Rattle.run_laws.specs.Drives.{steps_events}
-use Rattle.drive_laws.specs.Steps.{steps_made}
+use Rattle.drive_laws.specs.Steps.{drive_length}
 use Rattle.run_laws.proofs.ScriptDrives.{all_made, drive_fewer, drive_walked, drive_whole}
 use Rattle.run_laws.proofs.drives.script_drive.Goals as goal
 
@@ -13,7 +13,7 @@ returns c = record {
   steps = λ name is_quiet core count steps fits. ap (λ effect. effect.steps) (drive_whole name is_quiet count core steps fits);
   goes_on = λ name is_quiet core count steps fits. ap (λ effect. effect.ending) (drive_whole name is_quiet count core steps fits);
   told = λ name is_quiet core count steps fits. record {
-    earlier = steps_events (steps_made count core) name is_quiet core;
+    earlier = steps_events (drive_length count core) name is_quiet core;
     is = ap (λ effect. effect.events) (drive_whole name is_quiet count core steps fits);
   };
 }

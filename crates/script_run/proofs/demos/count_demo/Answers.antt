@@ -8,8 +8,8 @@ use Rattle.script_run.specs.DemoRuns.{IsCounted}
 use Rattle.script_run.proofs.DemoSums.{counted, demo_count, not_refused, said_commands, script_runnable}
 use Rattle.script_run.proofs.demos.count_demo.Goals as goal
 
-pub count_accepted-requires : goal.count_accepted-requires
-count_accepted-requires c =
+pub count_messages-requires : goal.count_messages-requires
+count_messages-requires c =
     let sessions = c.args.sessions in
     let same = said_commands sessions c.as_slice.result.now c.in-Ok.script.commands.items c.requires.most (c.as_slice.ensures.value ∙ c.in_ok-text.ensures) c.in-Ok.ensures in
     record {
@@ -20,9 +20,9 @@ count_accepted-requires c =
 
 pub returns-in-Ok : goal.returns-in-Ok
 returns-in-Ok c =
-    counted c.args.sessions c.in-Ok.script.commands.items c.count_accepted.result
+    counted c.args.sessions c.in-Ok.script.commands.items c.count_messages.result
     (ap script_of (sym (c.as_slice.ensures.value ∙ c.in_ok-text.ensures)) ∙ c.in-Ok.ensures)
-    (subst (λ (commands : List Command). IsCounted commands c.count_accepted.result) c.as_slice-in-Ok.ensures.value c.count_accepted.ensures)
+    (subst (λ (commands : List Command). IsCounted commands c.count_messages.result) c.as_slice-in-Ok.ensures.value c.count_messages.ensures)
 
 pub unreachable-requires : goal.unreachable-requires
 unreachable-requires c =

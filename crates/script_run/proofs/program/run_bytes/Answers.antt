@@ -7,7 +7,7 @@ use Rattle.script_run.proofs.YardEnds.{long_leaves, memory_leaves}
 use Rattle.script_run.proofs.program.run_bytes.Goals as goal
 
 pub returns-in-Ok-clause-ends : goal.returns-in-Ok-clause-ends
-returns-in-Ok-clause-ends g c = rw (c.in-Ok.ensures) c.run_parsed.ensures.leaves.ends
+returns-in-Ok-clause-ends g c = rw (c.in-Ok.ensures) c.run_and_write.ensures.leaves.ends
 
 pub returns-in-Ok-clause-fits : goal.returns-in-Ok-clause-fits
 returns-in-Ok-clause-fits g c ended = script_fits c.args.bytes.now c.in-Ok.parsed.commands.items c.in-Ok.ensures
@@ -21,13 +21,13 @@ pub returns-in-Err-NoMemory-clause-ends : goal.returns-in-Err-NoMemory-clause-en
 returns-in-Err-NoMemory-clause-ends g c = unread_ends _ _ _ _ _
 
 pub returns-in-Ok-clause-unasked : goal.returns-in-Ok-clause-unasked
-returns-in-Ok-clause-unasked g c none = c.run_parsed.ensures.unasked (subst TextAsksNone c.in-Ok.ensures none)
+returns-in-Ok-clause-unasked g c none = c.run_and_write.ensures.unasked (subst TextAsksNone c.in-Ok.ensures none)
 
 pub returns-in-Ok-clause-leaves : goal.returns-in-Ok-clause-leaves
-returns-in-Ok-clause-leaves g c = rw (c.in-Ok.ensures) c.run_parsed.ensures.leaves
+returns-in-Ok-clause-leaves g c = rw (c.in-Ok.ensures) c.run_and_write.ensures.leaves
 
 pub returns-in-Ok-clause-unfilled : goal.returns-in-Ok-clause-unfilled
-returns-in-Ok-clause-unfilled g c long = long_leaves c.run_parsed.result _ c.args.bytes.now _ _ _ _ _ _ _ _ long (returns-in-Ok-clause-leaves g c)
+returns-in-Ok-clause-unfilled g c long = long_leaves c.run_and_write.result _ c.args.bytes.now _ _ _ _ _ _ _ _ long (returns-in-Ok-clause-leaves g c)
 
 pub returns-in-Err-Refused-clause-leaves : goal.returns-in-Err-Refused-clause-leaves
 returns-in-Err-Refused-clause-leaves g c =

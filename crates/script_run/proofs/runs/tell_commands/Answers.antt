@@ -5,11 +5,11 @@ use Rattle.rp_io.specs.Causes.{Rose}
 use Rattle.command_run.specs.declared.faults.CommandFault.{CommandFault}
 use Rattle.command_run.specs.declared.faults.OutputFault.{OutputFault}
 use Rattle.script_run.specs.declared.statuses.Status.{Status}
-use Rattle.command_run.specs.Stores.{Told}
+use Rattle.command_run.specs.Stores.{StoreAnswers}
 use Rattle.link_commands.specs.Logs.{KeepsLess, LogState}
 use Rattle.command_run.specs.Fetches.{DidTold, RunsTold}
 use Rattle.script_run.specs.Outputs.{end_output, store_fault_output}
-use Rattle.script_run.specs.Told.{EndsRun, RunWrites}
+use Rattle.script_run.specs.Delivery.{EndsRun, RunWrites}
 use Rattle.command_run.specs.Runs.{AsksNone, ObjectsState, Run, RunState, asked_name, run_from}
 use Rattle.command_run.proofs.RunSteps.{asks_first, asks_later, left_at, run_none, runnable_first}
 use Rattle.script_run.proofs.SoFar.{SoFar, asked_some, so_far_none, so_far_ends, so_far_fails, so_far_memory_cut, so_far_write_cut, so_far_write_fault, so_far_handed, so_far_after, so_far_until}
@@ -122,13 +122,13 @@ returns-in-Err-Store g c =
     record {
       written =
           so_far_fails images commands (drop i commands) (sink.written c.args.out.now) (sink.written c.run_command.new.out) c.loop-command.log.lines state first (drop (i + 1) commands) asks.0
-          c.end_failed.result c.run_command.new.objects (sink.written c.end_failed.new.out) (sink.faults c.args.out.now) (sink.faults c.run_command.new.out) (sink.faults c.end_failed.new.out)
+          c.end_with_fault.result c.run_command.new.objects (sink.written c.end_with_fault.new.out) (sink.faults c.args.out.now) (sink.faults c.run_command.new.out) (sink.faults c.end_with_fault.new.out)
           (store.faults c.args.store.now) (store.faults c.run_command.new.store)
           (subst (λ (written : Option (List ℕ)). SoFar images commands (drop i commands) (sink.written c.args.out.now) written c.loop-command.log.lines (λ later rest. run_from later state rest)) (sym failed.2) c.loop-command.invariant.so_far)
-          (left_at commands i first c.loop-command-test.true c.command-item.is) asks.1 failed.5 (failed.3 ∙ c.loop-command.invariant.same) c.end_failed.ensures.found
+          (left_at commands i first c.loop-command-test.true c.command-item.is) asks.1 failed.5 (failed.3 ∙ c.loop-command.invariant.same) c.end_with_fault.ensures.found
           (subst (λ (faults : ℕ). Rose faults (store.faults c.run_command.new.store)) c.loop-command.invariant.still failed.4)
-          (subst (λ (log : LogState). EndsRun c.end_failed.result store_fault_output log.lines (sink.written c.run_command.new.out) (sink.written c.end_failed.new.out)
-          (sink.faults c.run_command.new.out) (sink.faults c.end_failed.new.out)) failed.1 c.end_failed.ensures.written);
+          (subst (λ (log : LogState). EndsRun c.end_with_fault.result store_fault_output log.lines (sink.written c.run_command.new.out) (sink.written c.end_with_fault.new.out)
+          (sink.faults c.run_command.new.out) (sink.faults c.end_with_fault.new.out)) failed.1 c.end_with_fault.ensures.written);
       unasked = λ none.
           let sofar = c.loop-command.invariant.unasked none in
           c.run_command.ensures.unasked (asks_first state (drop c.loop-command.command-index commands) first (drop (c.loop-command.command-index + 1) commands)
@@ -223,7 +223,7 @@ returns g c =
     let images = store.images c.args.store.now in
     let state : RunState = record { objects = c.loop-command.objects; steps = c.loop-command.log.steps } in
     let left = drop c.loop-command.command-index commands in
-    let ended : (later : Told) → run_from later state left ≡ record { events = []; last = state; ending = None; failed = false } =
+    let ended : (later : StoreAnswers) → run_from later state left ≡ record { events = []; last = state; ending = None; failed = false } =
     λ later. ap (run_from later state) (drop_of_length-le commands c.loop-command-test.false) ∙ run_none later state in
     record {
       written =

@@ -10,7 +10,7 @@ use Rattle.clap.specs.Simple.{app_of_fields, matches_of, on_top}
 use Rattle.clap.specs.declared.builder.command.Command.TheOpen.{Command-F}
 use Rattle.clap.specs.declared.builder.command.Command.{Command}
 use Rattle.clap.proofs.WalkLemmas.{first_value-rows, list_any-map, raw_values-rows}
-use Rattle.script_run.specs.Asked.{begins_with_dash}
+use Rattle.script_run.specs.Requests.{begins_with_dash}
 use Rattle.script_run.proofs.Matches.{app, args, several, args_are, job, job_is, words_are_taken}
 use Rattle.script_run.proofs.words.matches_of.Goals as goal
 

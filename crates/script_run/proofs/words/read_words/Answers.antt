@@ -1,7 +1,7 @@
 use Rattle.std.proofs.Common.{◌∙◌, map, sym}
 use Rattle.clap.proofs.WalkLemmas.{list_any-map}
-use Rattle.script_run.specs.Asked.{begins_with_dash}
-use Rattle.script_run.proofs.Accepted.{dashed_form}
+use Rattle.script_run.specs.Requests.{begins_with_dash}
+use Rattle.script_run.proofs.WordForms.{dashed_form}
 use Rattle.script_run.proofs.words.read_words.Goals as goal
 
 pub returns-then-has_dashed_word-clause-form : goal.returns-then-has_dashed_word-clause-form

@@ -4,7 +4,7 @@ use Rattle.way_laws.proofs.DrivenTakes.{drive_told}
 use Rattle.way_laws.proofs.DrivenWords.{drive_worded}
 use Rattle.way_laws.proofs.RunCoreTales.{cores_come}
 use Rattle.way_laws.proofs.RunTales.{links_come}
-use Rattle.way_laws.proofs.Worded.{act_none, act_tells, act_worded, take_worded}
+use Rattle.way_laws.proofs.WordedLines.{act_none, act_tells, act_worded, take_worded}
 use Rattle.way_laws.proofs.runs.takes_are_worded.Goals as goal
 
 pub returns : goal.returns

@@ -9,7 +9,7 @@ use Rattle.command_run.specs.CoreEffects.{CoreEffect}
 use Rattle.command_run.specs.Fetches.{EndsCut}
 use Rattle.command_run.specs.Outcomes.{HasCoreEffect}
 use Rattle.command_run.specs.CoreDrives.{drive_steps}
-use Rattle.command_run.proofs.Handed.{front_of_none, no_write}
+use Rattle.command_run.proofs.HandedLines.{front_of_none, no_write}
 use Rattle.command_run.proofs.Driving.{drive_up, handing_cut, handing_keeps, keeps_down, keeps_same}
 use Rattle.command_run.proofs.cores.NamedCore.drive_handing.Goals as goal
 

@@ -6,7 +6,7 @@ use Rattle.command_run.specs.declared.faults.OutputFault.{OutputFault}
 use Rattle.command_run.specs.Fetches.{EndsCut}
 use Rattle.command_run.specs.Outcomes.{DrivesOn}
 use Rattle.command_run.specs.CoreDrives.{drive_steps}
-use Rattle.command_run.proofs.Handed.{front_of_none, no_write, on_write}
+use Rattle.command_run.proofs.HandedLines.{front_of_none, no_write, on_write}
 use Rattle.command_run.proofs.Driving.{handing_cut, handing_first, handing_handed, handing_on, handing_paused}
 use Rattle.command_run.proofs.cores.NamedCore.drive_pieces.Goals as goal
 

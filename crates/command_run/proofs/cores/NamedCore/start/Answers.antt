@@ -1,7 +1,7 @@
 use Rattle.std.proofs.Common.{ℕ, List, Ok, refl, sym, ap, subst, ◌∙◌}
 use Rattle.command_run.specs.Starts.{Begins, IsImageOf}
 use Rattle.command_run.specs.declared.starts.Beginning.TheVariants as beginning
-use Rattle.command_run.proofs.Started.{did_with, did_without, went_on}
+use Rattle.command_run.proofs.StartEffects.{did_with, did_without, went_on}
 use Rattle.command_run.proofs.cores.NamedCore.start.Goals as goal
 
 pub returns-in_ok-tell_start-in-Done-clause-started : goal.returns-in_ok-tell_start-in-Done-clause-started

@@ -2,7 +2,7 @@ use Rattle.std.proofs.Common.{Err, ap, subst, ◌∙◌}
 use Rattle.rp_io.specs.declared.faults.NoImage.TheVariants as no_image
 use Rattle.command_run.specs.CoreLives.{found_image}
 use Rattle.command_run.specs.Starts.{Begins}
-use Rattle.command_run.proofs.Started.{did_over, went_on}
+use Rattle.command_run.proofs.StartEffects.{did_over, went_on}
 use Rattle.command_run.proofs.cores.NamedCore.start_without_store.Goals as goal
 
 pub returns-in_ok-tell_start-in-Done-clause-effect : goal.returns-in_ok-tell_start-in-Done-clause-effect

@@ -14,8 +14,8 @@ use Rattle.command_run.specs.Fetches.{EndsCut, IfSinkFailed, KeepsDriven, drive_
 use Rattle.link_commands.specs.Logs.{KeepsLess}
 use Rattle.command_run.specs.Outcomes.{CutsCore, CutsRun, HandsCoreEffect, HandsRunEffect, KeepsWhole}
 use Rattle.command_run.specs.NamedCores.{NamedCoreState}
-use Rattle.command_run.specs.Runs.{ObjectsState, RunEffect, RunState, core_named, core_place, line_effect, name_effect, place_of}
-use Rattle.command_run.proofs.Handed.{front_of_none, no_write}
+use Rattle.command_run.specs.Runs.{ObjectsState, RunEffect, RunState, core_under, core_place, line_effect, name_effect, place_of}
+use Rattle.command_run.proofs.HandedLines.{front_of_none, no_write}
 use Rattle.command_run.proofs.Placing.{drive_cut, drive_keeps, drive_placed, drive_run, kept_run}
 use Rattle.command_run.proofs.objects.Objects.drive.Goals as goal
 
@@ -100,6 +100,6 @@ returns-in_err-run_on_name-in-None-clause-paused g c =
 
 pub returns-in_ok-run_on_name-in-None-clause-less : goal.returns-in_ok-run_on_name-in-None-clause-less
 returns-in_ok-run_on_name-in-None-clause-less g c =
-    let none : core_named c.args.self.now c.args.name ≡ None = ap (core_named c.args.self.now) (sym c.bytes.ensures.bytes) ∙ c.in-None.ensures.none in
+    let none : core_under c.args.self.now c.args.name ≡ None = ap (core_under c.args.self.now) (sym c.bytes.ensures.bytes) ∙ c.in-None.ensures.none in
     let events : ℕ → List Event = λ done. (line_effect (Err no_image.Missing) (record { objects = c.args.self.now; steps = c.args.log.now.steps }) (drive_line c.args.name done)).events in
     subst (λ (found : Option NamedCoreState). IfSome found (λ _. KeepsLess c.args.log.now → KeepsWhole events c.args.count c.run_on_name.new.log.lines)) (sym none) tt

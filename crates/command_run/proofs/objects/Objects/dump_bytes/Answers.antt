@@ -5,7 +5,7 @@ use Rattle.crash_recover.specs.Cores.{CoreState}
 use Rattle.command_run.specs.Dumps.{crashed_load, kept_dumps, load_answer}
 use Rattle.command_run.specs.NamedCores.{NamedCoreState}
 use Rattle.command_run.specs.NamedImages.{ImageState}
-use Rattle.command_run.specs.Runs.{ObjectsState, core_named, has_image}
+use Rattle.command_run.specs.Runs.{ObjectsState, core_under, has_image}
 use Rattle.command_run.proofs.FoundDumps.{found_dump}
 use Rattle.command_run.proofs.objects.Objects.dump_bytes.Goals as goal
 
@@ -14,7 +14,7 @@ returns-in-Some c =
     let objects : ObjectsState = c.args.self.now in
     let named : NamedCoreState = c.in-Some.named.now in
     let core : CoreState = c.named.inside.core in
-    let found : core_named objects c.args.name ≡ Some named = ap (core_named objects) (sym c.bytes-2.ensures.bytes) ∙ sym c.core_named.ensures ∙ ap option_copied c.in-Some.is in
+    let found : core_under objects c.args.name ≡ Some named = ap (core_under objects) (sym c.bytes-2.ensures.bytes) ∙ sym c.core_under.ensures ∙ ap option_copied c.in-Some.is in
     let taken : c.has_image.result ≡ has_image objects.images c.args.image =
     c.has_image.ensures ∙ ap (has_image c.as_slice.result.now) c.bytes.ensures.bytes
     ∙ ap (λ (images : List ImageState). has_image images c.args.image) (c.as_slice.ensures.value ∙ ap (λ (o : ObjectsState). o.images) c.self.view_is) in

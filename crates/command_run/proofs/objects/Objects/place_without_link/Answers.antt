@@ -1,11 +1,11 @@
 use Rattle.std.proofs.Common.{◌≡◌, ℕ, List, Option, Some, None, IfNone, sym, ap, ◌∙◌}
 use Rattle.command_run.specs.NamedCores.{NamedCoreState}
 use Rattle.link_commands.specs.NamedLinks.{NamedLink}
-use Rattle.command_run.specs.Runs.{ObjectsState, core_named, core_place, place_of}
+use Rattle.command_run.specs.Runs.{ObjectsState, core_under, core_place, place_of}
 use Rattle.command_run.proofs.AskedNames.{core_nowhere}
 use Rattle.command_run.proofs.objects.Objects.place_without_link.Goals as goal
 
-nowhere : (objects : ObjectsState) (name : List ℕ) (found : Option ℕ) → None ≡ place_of objects.links name → found ≡ core_place objects.cores name → IfNone found (core_named objects name ≡ None)
+nowhere : (objects : ObjectsState) (name : List ℕ) (found : Option ℕ) → None ≡ place_of objects.links name → found ≡ core_place objects.cores name → IfNone found (core_under objects name ≡ None)
 nowhere objects name None none is = core_nowhere objects name none (sym is)
 nowhere objects name (Some place) none is = tt
 

@@ -4,11 +4,11 @@ use Rattle.std.proofs.lemmas.Option.{slice_get_read}
 use Rattle.command_run.specs.Faults.{store_command_fault}
 use Rattle.command_run.specs.Fetches.{RunsTold}
 use Rattle.command_run.specs.NamedImages.{ImageState}
-use Rattle.command_run.specs.Runs.{ObjectsState, RunState, core_named, act_asks, core_place, place_of, start_image}
+use Rattle.command_run.specs.Runs.{ObjectsState, RunState, core_under, act_asks, core_place, place_of, start_image}
 use Rattle.command_run.specs.Starts.{StartsOver}
 use Rattle.link_commands.specs.declared.acts.CoreAct.TheVariants as core
 use Rattle.command_run.proofs.AskedNames.{core_at_place}
-use Rattle.command_run.proofs.Started.{nobody_told, start_told}
+use Rattle.command_run.proofs.StartEffects.{nobody_told, start_told}
 use Rattle.command_run.proofs.objects.Objects.start.Goals as goal
 
 pub returns-in-Some-clause-told : goal.returns-in-Some-clause-told
@@ -69,5 +69,5 @@ returns-in_ok-run_on_name-in-None-clause-told g c = λ asking written faults ask
     let told = c.in_ok-run_on_name-in-None in
     let after = c.run_on_name.new in
     nobody_told (store.images c.args.store.now) run asking c.args.name c.args.start asks log after.log written faults was was after.self told.field-0
-    (sym (ap (core_named objects) c.bytes.ensures.bytes) ∙ c.in-None.ensures.none) refl
+    (sym (ap (core_under objects) c.bytes.ensures.bytes) ∙ c.in-None.ensures.none) refl
     told.ensures

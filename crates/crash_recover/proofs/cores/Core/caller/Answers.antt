@@ -3,7 +3,7 @@ use Rattle.lane_model.specs.Links.{free_number}
 use Rattle.link_bench.specs.declared.acts.LinkAct.TheVariants as act
 use Rattle.link_bench.specs.Benches.{BenchState, link_in}
 use Rattle.core_actors.specs.Actors.{actors_view}
-use Rattle.crash_recover.specs.CoreActs.{HasCoreActed, core_act}
+use Rattle.crash_recover.specs.CoreActs.{HasCoreActResult, core_act}
 use Rattle.crash_recover.specs.CoreCallers.{caller_answer}
 use Rattle.crash_recover.specs.Cores.{CoreState}
 use Rattle.crash_recover.specs.KeptCores.{IsKeptBench, IsReadyLink}
@@ -28,7 +28,7 @@ returns-clause-acted c =
     let bench = c.in-Some.bench in
     let end = c.args.end in
     let number = free_number (link_in bench).callers in
-    subst (λ (core : CoreState). HasCoreActed (core_act core 0 (act.Caller end)) (record (the_view c.self.inside) { bench = Some c.caller.new.self }) 0 (Some (caller_answer end c.caller.result))) c.self.view_is
-    (subst (λ (told : Option ℕ). HasCoreActed (core_act core 0 (act.Caller end)) (record core { bench = Some c.caller.new.self }) 0 (Some (caller_answer end told))) (sym c.caller.ensures.number)
-    (subst (λ (left : BenchState). HasCoreActed (core_act core 0 (act.Caller end)) (record core { bench = Some left }) 0 (Some (caller_answer end number))) (sym c.caller.ensures.left)
+    subst (λ (core : CoreState). HasCoreActResult (core_act core 0 (act.Caller end)) (record (the_view c.self.inside) { bench = Some c.caller.new.self }) 0 (Some (caller_answer end c.caller.result))) c.self.view_is
+    (subst (λ (told : Option ℕ). HasCoreActResult (core_act core 0 (act.Caller end)) (record core { bench = Some c.caller.new.self }) 0 (Some (caller_answer end told))) (sym c.caller.ensures.number)
+    (subst (λ (left : BenchState). HasCoreActResult (core_act core 0 (act.Caller end)) (record core { bench = Some left }) 0 (Some (caller_answer end number))) (sym c.caller.ensures.left)
     (caller_acted core bench c.in-Some.is end)))

@@ -11,7 +11,7 @@ use Rattle.link_bench.specs.Acts.{answer_of_reclaim}
 use Rattle.link_bench.specs.BenchCrashes.{reclaim_answer}
 use Rattle.link_bench.specs.Benches.{BenchState, link_in}
 use Rattle.core_actors.specs.Actors.{actors_view}
-use Rattle.crash_recover.specs.CoreActs.{HasCoreActed, core_act}
+use Rattle.crash_recover.specs.CoreActs.{HasCoreActResult, core_act}
 use Rattle.crash_recover.specs.Cores.{CoreState}
 use Rattle.crash_recover.specs.KeptCores.{IsKeptBench, IsReadyLink}
 use Rattle.crash_recover.specs.contracts.cores.Core.{the_view}
@@ -34,7 +34,7 @@ invariant_of-self-2 c =
 pub returns-then-is_own-clause-acted : goal.returns-then-is_own-clause-acted
 returns-then-is_own-clause-acted c =
     let caller = c.args.caller in
-    subst (λ (core : CoreState). HasCoreActed (core_act core 0 (act.Reclaim caller)) (record (the_view c.self.inside) { bench = Some c.in-Some.bench }) 0 (Some (answer.Refused caller fault.NoCaller))) c.self.view_is
+    subst (λ (core : CoreState). HasCoreActResult (core_act core 0 (act.Reclaim caller)) (record (the_view c.self.inside) { bench = Some c.in-Some.bench }) 0 (Some (answer.Refused caller fault.NoCaller))) c.self.view_is
     (own_reclaim (the_view c.self.inside) c.in-Some.bench c.in-Some.is caller (sym c.is_own.ensures ∙ c.if-is_own.true))
 
 pub returns-clause-acted : goal.returns-clause-acted
@@ -44,7 +44,7 @@ returns-clause-acted c =
     let caller = c.args.caller in
     let why = link_reclaim_refusal (link_in bench) caller in
     let told = reclaim_answer (end_of (link_in bench).callers caller) why in
-    subst (λ (core : CoreState). HasCoreActed (core_act core 0 (act.Reclaim caller)) (record (the_view c.self.inside) { bench = Some c.reclaim.new.self }) 0 (Some (answer_of_reclaim caller c.reclaim.result))) c.self.view_is
-    (subst (λ (told : Result Reclaim BenchFault). HasCoreActed (core_act core 0 (act.Reclaim caller)) (record core { bench = Some c.reclaim.new.self }) 0 (Some (answer_of_reclaim caller told))) (sym c.reclaim.ensures.answer)
-    (subst (λ (left : BenchState). HasCoreActed (core_act core 0 (act.Reclaim caller)) (record core { bench = Some left }) 0 (Some (answer_of_reclaim caller told))) (sym c.reclaim.ensures.left)
+    subst (λ (core : CoreState). HasCoreActResult (core_act core 0 (act.Reclaim caller)) (record (the_view c.self.inside) { bench = Some c.reclaim.new.self }) 0 (Some (answer_of_reclaim caller c.reclaim.result))) c.self.view_is
+    (subst (λ (told : Result Reclaim BenchFault). HasCoreActResult (core_act core 0 (act.Reclaim caller)) (record core { bench = Some c.reclaim.new.self }) 0 (Some (answer_of_reclaim caller told))) (sym c.reclaim.ensures.answer)
+    (subst (λ (left : BenchState). HasCoreActResult (core_act core 0 (act.Reclaim caller)) (record core { bench = Some left }) 0 (Some (answer_of_reclaim caller told))) (sym c.reclaim.ensures.left)
     (reclaim_acted core bench c.in-Some.is caller (sym c.is_own.ensures ∙ c.if-is_own.false))))

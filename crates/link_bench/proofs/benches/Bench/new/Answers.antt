@@ -1,6 +1,6 @@
 use Rattle.std.proofs.Common.{◌≡◌, List, Option, Some, slice_get, length, ap, subst}
 use Rattle.link_bench.specs.declared.benches.BegunCall.{BegunCall}
-use Rattle.link_bench.proofs.Begun.{none_in_none}
+use Rattle.link_bench.proofs.BegunCalls.{none_in_none}
 use Rattle.link_bench.proofs.benches.Bench.new.Goals as goal
 
 pub invariant_of-result : goal.invariant_of-result

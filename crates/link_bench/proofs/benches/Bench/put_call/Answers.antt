@@ -2,7 +2,7 @@ use Rattle.std.proofs.Common.{◌≡◌, ℕ, Some, None, slice_set, sym, subst,
 use Rattle.std.proofs.lemmas.List.{length-set}
 use Rattle.link_bench.specs.declared.benches.BegunCall.{BegunCall}
 use Rattle.link_bench.specs.Benches.{BenchState, AreFitCalls, begin_fault, lists_of}
-use Rattle.link_bench.proofs.Begun.{begin_may, fit_put}
+use Rattle.link_bench.proofs.BegunCalls.{begin_may, fit_put}
 use Rattle.link_bench.proofs.benches.Bench.put_call.Goals as goal
 
 pub invariant_of-self : goal.invariant_of-self

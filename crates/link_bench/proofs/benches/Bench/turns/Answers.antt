@@ -1,5 +1,5 @@
 use Rattle.std.proofs.Common.{◌≡◌, suc, ◌+◌, ◌-◌, sym, ap, ◌∙◌, arith}
-use Rattle.link_bench.specs.Turns.{Pumped, pump_turns}
+use Rattle.link_bench.specs.Turns.{PumpResult, pump_turns}
 use Rattle.link_bench.proofs.Cuts.{on_err}
 use Rattle.link_bench.proofs.TurnWalks.{turns_more, turns_none, turns_stop, whole_pump}
 use Rattle.link_bench.proofs.benches.Bench.turns.Goals.{After-from_residual, After-loop-done, Then-not-is_whole}
@@ -42,24 +42,24 @@ pub returns-in_err-make_room-clause-cut : goal.returns-in_err-make_room-clause-c
 returns-in_err-make_room-clause-cut g c = on_err c.from_residual.result (record {
   done = c.loop-done.done;
   most = omega (arith, c.loop-done-test.true);
-  bench = ap (λ (pumped : Pumped g.W.Watcher.State). pumped.turns.bench) (ran_out g c);
-  watcher = c.make_room.ensures.same ∙ ap (λ (pumped : Pumped g.W.Watcher.State). pumped.turns.watcher) (ran_out g c);
+  bench = ap (λ (pumped : PumpResult g.W.Watcher.State). pumped.turns.bench) (ran_out g c);
+  watcher = c.make_room.ensures.same ∙ ap (λ (pumped : PumpResult g.W.Watcher.State). pumped.turns.watcher) (ran_out g c);
 })
 
 pub returns-then-not-is_whole-clause-bench : goal.returns-then-not-is_whole-clause-bench
-returns-then-not-is_whole-clause-bench g c = ap (λ (pumped : Pumped g.W.Watcher.State). pumped.turns.bench) (stopped g c)
+returns-then-not-is_whole-clause-bench g c = ap (λ (pumped : PumpResult g.W.Watcher.State). pumped.turns.bench) (stopped g c)
 
 pub returns-then-not-is_whole-clause-watcher : goal.returns-then-not-is_whole-clause-watcher
-returns-then-not-is_whole-clause-watcher g c = ap (λ (pumped : Pumped g.W.Watcher.State). pumped.turns.watcher) (stopped g c)
+returns-then-not-is_whole-clause-watcher g c = ap (λ (pumped : PumpResult g.W.Watcher.State). pumped.turns.watcher) (stopped g c)
 
 pub returns-then-not-is_whole-clause-steps : goal.returns-then-not-is_whole-clause-steps
-returns-then-not-is_whole-clause-steps g c = ap (λ (pumped : Pumped g.W.Watcher.State). pumped.turns.steps) (stopped g c)
+returns-then-not-is_whole-clause-steps g c = ap (λ (pumped : PumpResult g.W.Watcher.State). pumped.turns.steps) (stopped g c)
 
 pub returns-then-not-is_whole-clause-ended : goal.returns-then-not-is_whole-clause-ended
-returns-then-not-is_whole-clause-ended g c = ap (λ (pumped : Pumped g.W.Watcher.State). pumped.turns.ended) (stopped g c)
+returns-then-not-is_whole-clause-ended g c = ap (λ (pumped : PumpResult g.W.Watcher.State). pumped.turns.ended) (stopped g c)
 
 pub returns-then-not-is_whole-clause-done : goal.returns-then-not-is_whole-clause-done
-returns-then-not-is_whole-clause-done g c = ap (λ (pumped : Pumped g.W.Watcher.State). pumped.done) (stopped g c)
+returns-then-not-is_whole-clause-done g c = ap (λ (pumped : PumpResult g.W.Watcher.State). pumped.done) (stopped g c)
 
 pub loop-done-preserved : goal.loop-done-preserved
 loop-done-preserved g c = record {
@@ -74,16 +74,16 @@ loop-done-preserved g c = record {
 }
 
 pub returns-clause-bench : goal.returns-clause-bench
-returns-clause-bench g c = ap (λ (pumped : Pumped g.W.Watcher.State). pumped.turns.bench) (whole g c)
+returns-clause-bench g c = ap (λ (pumped : PumpResult g.W.Watcher.State). pumped.turns.bench) (whole g c)
 
 pub returns-clause-watcher : goal.returns-clause-watcher
-returns-clause-watcher g c = ap (λ (pumped : Pumped g.W.Watcher.State). pumped.turns.watcher) (whole g c)
+returns-clause-watcher g c = ap (λ (pumped : PumpResult g.W.Watcher.State). pumped.turns.watcher) (whole g c)
 
 pub returns-clause-steps : goal.returns-clause-steps
-returns-clause-steps g c = ap (λ (pumped : Pumped g.W.Watcher.State). pumped.turns.steps) (whole g c)
+returns-clause-steps g c = ap (λ (pumped : PumpResult g.W.Watcher.State). pumped.turns.steps) (whole g c)
 
 pub returns-clause-ended : goal.returns-clause-ended
-returns-clause-ended g c = ap (λ (pumped : Pumped g.W.Watcher.State). pumped.turns.ended) (whole g c)
+returns-clause-ended g c = ap (λ (pumped : PumpResult g.W.Watcher.State). pumped.turns.ended) (whole g c)
 
 pub returns-clause-done : goal.returns-clause-done
-returns-clause-done g c = ap (λ (pumped : Pumped g.W.Watcher.State). pumped.done) (whole g c)
+returns-clause-done g c = ap (λ (pumped : PumpResult g.W.Watcher.State). pumped.done) (whole g c)
