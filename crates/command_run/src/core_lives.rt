@@ -11,7 +11,8 @@ ghost use Rattle.command_run.specs.CoreLives.{crash_effect, detach_effect, fault
 use crate::NamedCore;
 use crash_recover::{CALLER_OUT, Crash, Leave, LeaveFault, RINGS_CHANGED, Start, StartFault};
 use journal::Event;
-use link_commands::{RunLog, StartAct, Stop, event, reopen_fault_event};
+use link_commands::{StartAct, Stop, event, reopen_fault_event};
+use run_log::RunLog;
 use proc_state::LifeFault;
 use rp_base::{CrashKind, Inc, Name, NoMemory, STEPS_MOST};
 use rp_io::NoImage;

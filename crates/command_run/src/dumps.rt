@@ -13,7 +13,8 @@ use core_dump::{Part, dump_len, write_dump};
 use crash_recover::Core;
 use fw_load::Loaded;
 use journal::Event;
-use link_commands::{RunLog, Stop};
+use link_commands::Stop;
+use run_log::RunLog;
 use rp_base::{Da, IMAGE_MOST, LifeState, Name, NoMemory};
 use std::alloc::Global;
 

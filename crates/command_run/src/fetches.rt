@@ -13,7 +13,8 @@ ghost use Rattle.link_commands.specs.Acts.{bare_line};
 
 use crate::faults::CommandFault;
 use crate::{Objects, ScriptImage};
-use link_commands::{CoreAct, Line, NamedAct, RunLog, Stop, line_of};
+use link_commands::{CoreAct, Line, NamedAct, Stop, line_of};
+use run_log::RunLog;
 use rp_base::{IMAGE_MOST, Name};
 use rp_io::{FirmwareStore, NoImage, Sink, StoreFault, bytes_of, look_up_bytes};
 use script_lang::{Command, Recipe};

@@ -8,7 +8,8 @@ ghost use Rattle.link_bench.specs.Turns.{HoldsEndTaken};
 
 use crate::call_events::{end_event, fault_event};
 use crate::logs::event;
-use crate::{RunLog, Stop};
+use crate::Stop;
+use run_log::RunLog;
 use journal::Event;
 use link_bench::{ActAnswer, Bench, Reach, Reclaim, TurnEnd};
 use rp_base::{CallerNo, Era, Name, NoMemory};

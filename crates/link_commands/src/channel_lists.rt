@@ -2,7 +2,8 @@ ghost use Rattle.std.specs.Prelude.{◌≡◌, ◌++◌, IsSomeAnd, OnOk, map};
 ghost use Rattle.journal.specs.Lines.{transcript};
 ghost use Rattle.link_commands.specs.ChannelLists.{channel_event, found_channels};
 
-use crate::logs::{RunLog, event};
+use crate::event_fields::event;
+use run_log::RunLog;
 use journal::Event;
 use name_service::Channel;
 use rp_base::{Name, NoMemory};

@@ -3,7 +3,8 @@ ghost use Rattle.link_commands.specs.Logs.{HasEffect};
 ghost use Rattle.link_commands.specs.Recoveries.{close_effect, reopen_effect, reopen_events};
 
 use crate::logs::event;
-use crate::{NamedBench, RunLog, Stop};
+use crate::{NamedBench, Stop};
+use run_log::RunLog;
 use journal::Event;
 use lane_model::{Already, ReopenFault};
 use rp_base::{Era, Name, NoMemory};

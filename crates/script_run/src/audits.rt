@@ -7,7 +7,7 @@ ghost use Rattle.script_run.specs.Outputs.{audit as audit_form, audit_output};
 ghost use Rattle.script_run.specs.Endings.{AuditEnds, Ends, IsFinal, IsReadEnd, devices, store_with};
 
 use crate::endings::{end_with, end_with_text};
-use crate::statuses::Status;
+use program_status::Status;
 use journal::Notice;
 use journal_check::{Audit, TRANSCRIPT_MOST, audit};
 use rp_base::NoMemory;

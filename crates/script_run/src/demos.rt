@@ -7,11 +7,12 @@ ghost use Rattle.script_run.specs.DemoRuns.{IsCounted, IsDemoCount};
 ghost use Rattle.script_run.specs.Endings.{Writes};
 
 use crate::endings::end_with;
-use crate::statuses::Status;
+use program_status::Status;
 use command_run::Objects;
 use image_maker::{SESSIONS_MOST, demo_script};
 use journal::Notice;
-use link_commands::{RunLog, Stop};
+use link_commands::Stop;
+use run_log::RunLog;
 use rp_base::NoMemory;
 use rp_io::Sink;
 use script_lang::{Command, ParseFault, parse};

@@ -5,7 +5,7 @@ ghost use Rattle.script_run.specs.Endings.{Ends, IsFinal, IsReportOutput, device
 ghost use Rattle.script_run.specs.ImageReports.{made_output};
 
 use crate::endings::{end_with, end_with_text};
-use crate::statuses::Status;
+use program_status::Status;
 use image_report::{ImageReport, refuse, report_image};
 use journal::Notice;
 use rp_base::{Name, NoMemory};

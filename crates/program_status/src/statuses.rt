@@ -24,7 +24,7 @@ pub enum Status {
 
 impl Status {
     ghost use Rattle.std.specs.Prelude.{◌≡◌};
-    ghost use Rattle.script_run.specs.Statuses.{status_number};
+    ghost use Rattle.program_status.specs.Statuses.{status_number};
 
     /// The number with which the process ends.
     pub fn number(self) -> u8

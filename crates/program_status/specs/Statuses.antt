@@ -1,7 +1,7 @@
 -- The numbers with which the process ends (own).
 use Rattle.std.specs.Prelude.{ℕ, ◌==◌, Option, Some, None, if◌then◌else◌}
-use Rattle.script_run.specs.declared.statuses.Status.{Status}
-use Rattle.script_run.specs.declared.statuses.Status.TheVariants as status
+use Rattle.program_status.specs.declared.statuses.Status.{Status}
+use Rattle.program_status.specs.declared.statuses.Status.TheVariants as status
 
 -- the number of each status
 abbrev pub status_number : Status → ℕ

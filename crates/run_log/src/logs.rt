@@ -4,7 +4,7 @@ ghost use Rattle.std.specs.Io.KnownBytes.{Appends};
 ghost use Rattle.rp_io.specs.Causes.{Rose};
 ghost use Rattle.rp_io.specs.Contents.{AppendsFront};
 ghost use Rattle.journal.specs.Lines.{line};
-ghost use Rattle.link_commands.specs.Logs.{Hands, KeepsLess};
+ghost use Rattle.run_log.specs.Logs.{Hands, KeepsLess};
 ghost use Rattle.journal.specs.Notices.{notice_line};
 
 use journal::{Event, Notice, push_notice};
@@ -17,16 +17,6 @@ use std::marker::Model;
 /// How many bytes are kept at least before they are handed on: a piece.
 pub const PIECE: usize = 16_384;
 
-/// An event of a name: each field is the variable that is called so, and those in brackets are widened.
-#[macro_export]
-macro_rules! event {
-    ($kind:ident, $name:ident, [$($number:ident),*] $(, $field:ident)*) => {
-        Event::$kind { name: $name, $($number: u64::from($number),)* $($field),* }
-    };
-}
-
-pub(crate) use event;
-
 /// What a run keeps beside its links: the lines that wait to be handed to the sink, and the count of
 /// the steps that were done.
 #[derive(Drop)]
@@ -38,7 +28,7 @@ pub struct RunLog {
 }
 
 impl Model for RunLog {
-    ghost use Rattle.link_commands.specs.Logs.{LogState};
+    ghost use Rattle.run_log.specs.Logs.{LogState};
 
     ghost Value = { LogState };
 
@@ -103,7 +93,7 @@ impl RunLog {
 
     /// Hands on what is kept, once it is a whole piece, so that less than a piece is kept.
     ///
-    /// Errors: [`Failed`] where the sink failed. A front of what was kept is written then.
+    /// Errors: [`Failed`] where the sink failed. A prefix of what was kept is written then.
     pub fn hand_on<K: Sink>(&mut self, out: &mut K) -> Result<(), Failed>
         ensures handed { OnOk result (Hands (K.written out.old) self.old.lines (K.written out.new) self.new.lines []) }
         ensures less { OnOk result (KeepsLess self.new) }
@@ -120,7 +110,7 @@ impl RunLog {
 
     /// Hands on what is kept.
     ///
-    /// Errors: [`Failed`] where the sink failed. A front of what was kept is written then.
+    /// Errors: [`Failed`] where the sink failed. A prefix of what was kept is written then.
     pub fn flush<K: Sink>(&mut self, out: &mut K) -> Result<(), Failed>
         ensures whole { OnOk result (Appends (K.written out.old) (K.written out.new) self.old.lines) }
         ensures empty { OnOk result (self.new ≡ record self.old { lines = [] }) }
