@@ -7,7 +7,7 @@ ghost use Rattle.link_bench.specs.Benches.{HoldsReachTaken, link_in};
 ghost use Rattle.link_bench.specs.Turns.{HoldsEndTaken};
 
 use crate::call_events::{end_event, fault_event};
-use crate::logs::event;
+use crate::event_fields::event;
 use crate::Stop;
 use run_log::RunLog;
 use journal::Event;

@@ -2,7 +2,7 @@ ghost use Rattle.std.specs.Prelude.{◌≡◌, ◌∷◌, [], IfOk};
 ghost use Rattle.link_commands.specs.Logs.{HasEffect};
 ghost use Rattle.link_commands.specs.Recoveries.{close_effect, reopen_effect, reopen_events};
 
-use crate::logs::event;
+use crate::event_fields::event;
 use crate::{NamedBench, Stop};
 use run_log::RunLog;
 use journal::Event;

@@ -1,5 +1,5 @@
 use Rattle.split_ring.specs.Callers.{IsCallerOf}
-use Rattle.script_threads.proofs.goes_on.send_one.Given as goal
+use Rattle.rows.proofs.goes_on.take_all.Given as goal
 
 -- the caller is in no call
 abbrev pub invariant-loop : goal.invariant-loop

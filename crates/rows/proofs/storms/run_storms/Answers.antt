@@ -1,7 +1,7 @@
 use Rattle.std.proofs.Common.{arith, refl}
 use Rattle.std.specs.Prelude.{IsTrue}
 use Rattle.std.specs.Int.{is_power_of_two}
-use Rattle.storm_threads.proofs.main.Goals as goal
+use Rattle.rows.proofs.storms.run_storms.Goals as goal
 
 four : IsTrue (is_power_of_two 4)
 unfolding lib.Count.ones
