@@ -1,5 +1,5 @@
 use Rattle.split_ring.specs.Callers.{IsAfterCall}
-use Rattle.two_lives.proofs.users.take_one.Given as goal
+use Rattle.link_threads.proofs.users.take_one.Given as goal
 
 -- the caller is in no call
 abbrev pub invariant-loop : goal.invariant-loop

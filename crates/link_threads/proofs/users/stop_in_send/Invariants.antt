@@ -1,7 +1,7 @@
 use Rattle.std.proofs.Common.{◌≡◌}
 use Rattle.split_ring.specs.Callers.{MayAdvance}
-use Rattle.two_lives.proofs.Sends.{SendsOn}
-use Rattle.two_lives.proofs.users.stop_in_send.Given as goal
+use Rattle.link_threads.proofs.Sends.{SendsOn}
+use Rattle.link_threads.proofs.users.stop_in_send.Given as goal
 
 -- the call goes on, behind so many steps
 abbrev pub invariant-loop-step : goal.invariant-loop-step

@@ -31,7 +31,7 @@ use Rattle.split_ring.specs.CallPhases.{Phase}
 use Rattle.split_ring.specs.CallPhases as phase
 use Rattle.split_ring.specs.declared.sends.SendFault.{SendFault}
 use Rattle.split_ring.specs.declared.sends.SendFault.TheVariants as fault
-use Rattle.two_lives.specs.Lives.{sent_alone}
+use Rattle.link_threads.specs.Lives.{sent_alone}
 
 either : (b : Bool) (new was old : List (ℕ × List ℕ)) (s : ℕ × List ℕ) → new ≡ old ++ was → cond b (new ++ s ∷ []) new ≡ old ++ cond b (was ++ s ∷ []) was
 either true new was old s e = ap (λ (l : List (ℕ × List ℕ)). l ++ s ∷ []) e ∙ append_assoc old was (s ∷ [])

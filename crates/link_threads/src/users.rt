@@ -1,7 +1,7 @@
 //! What the two callers of a life do: the one sends, the other is handed what was sent.
 ghost use Rattle.std.specs.Prelude.{◌≡◌, IfSome};
 ghost use Rattle.split_ring.specs.Callers.{Holds, IsAfterCall, IsCallerOf};
-ghost use Rattle.two_lives.specs.Lives.{HasGrown, HasPublishedNone, HasSentAlone, HasStopped, HasTaken, IsFree, IsNew};
+ghost use Rattle.link_threads.specs.Lives.{HasGrown, HasPublishedNone, HasSentAlone, HasStopped, HasTaken, IsFree, IsNew};
 
 use lane_model::{Ask, Desk, Held, Progress};
 use rp_base::Message;

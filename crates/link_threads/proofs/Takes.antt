@@ -11,7 +11,7 @@ use Rattle.split_ring.specs.declared.takes.Taken.{Taken}
 use Rattle.split_ring.specs.Callers.{own_of}
 use Rattle.split_ring.specs.Receives.{IsTake, message_look}
 use Rattle.split_ring.specs.Sends.{live_era}
-use Rattle.two_lives.specs.Lives.{HasGrown, HasTaken}
+use Rattle.link_threads.specs.Lives.{HasGrown, HasTaken}
 
 -- more again
 pub grown_then : (a b c : Caller) (walk : List Event) → HasGrown a b → own_of c ≡ walk ++ own_of b → HasGrown a c

@@ -16,8 +16,8 @@ use Rattle.split_ring.specs.declared.sends.SendFault.{SendFault}
 use Rattle.split_ring.specs.Callers.{IsCallerOf, MayAdvance, own_of}
 use Rattle.split_ring.specs.Seats.{pass_in}
 use Rattle.split_ring.specs.Sends.{IsSend}
-use Rattle.two_lives.specs.Lives.{HasPublishedNone, HasSentAlone, HasStopped}
-use Rattle.two_lives.proofs.Sends.{SendsOn, half_sent, published, quiet}
+use Rattle.link_threads.specs.Lives.{HasPublishedNone, HasSentAlone, HasStopped}
+use Rattle.link_threads.proofs.Sends.{SendsOn, half_sent, published, quiet}
 
 -- in no call
 pub stopped_out : {D : Type 0} (link : SharedLink D) (caller : Caller) → IsCallerOf link caller → (pass_in caller.seat.me).hands ≡ [] → HasStopped link caller None

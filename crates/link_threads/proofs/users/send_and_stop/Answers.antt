@@ -1,8 +1,8 @@
 use Rattle.std.proofs.Common.{ℕ, ◌∙◌, sym, subst}
 use Rattle.std.specs.Prelude.{Option}
-use Rattle.two_lives.specs.Lives.{HasSentAlone}
-use Rattle.two_lives.proofs.Stops.{alone}
-use Rattle.two_lives.proofs.users.send_and_stop.Goals as goal
+use Rattle.link_threads.specs.Lives.{HasSentAlone}
+use Rattle.link_threads.proofs.LifeStops.{alone}
+use Rattle.link_threads.proofs.users.send_and_stop.Goals as goal
 
 pub stop_in_send-caller-requires : goal.stop_in_send-caller-requires
 stop_in_send-caller-requires g c = record { rests = c.try_send.ensures.caller.1; hands = c.try_send.ensures.walk.done.in_hand ∙ c.requires.free.hands }

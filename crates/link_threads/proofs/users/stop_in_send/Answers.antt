@@ -2,9 +2,9 @@ use Rattle.std.proofs.Common.{refl, sym, ◌∙◌, subst, arith}
 use Rattle.split_ring.specs.Calls.{IsInPhase}
 use Rattle.split_ring.specs.Callers.{own_of}
 use Rattle.split_ring.specs.CallPhases.{Phase}
-use Rattle.two_lives.proofs.Sends.{begun, ends, goes_on, quiet}
-use Rattle.two_lives.proofs.Stops.{stopped_out}
-use Rattle.two_lives.proofs.users.stop_in_send.Goals as goal
+use Rattle.link_threads.proofs.Sends.{begun, ends, goes_on, quiet}
+use Rattle.link_threads.proofs.LifeStops.{stopped_out}
+use Rattle.link_threads.proofs.users.stop_in_send.Goals as goal
 
 pub loop-step-init : goal.loop-step-init
 loop-step-init g c = let q = c.requires.rests in let a = c.args.caller in let z = c.args.link.now.sizes in record {

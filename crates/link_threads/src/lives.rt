@@ -1,7 +1,7 @@
 //! The two lives of a link, and what its manager does between them.
 ghost use Rattle.std.specs.Prelude.{◌≡◌, ◌+◌, ◌<◌, ◌^◌, IfOk, IfSome, [], ◌∷◌, ◌++◌};
 ghost use Rattle.split_ring.specs.Callers.{IsCallerOf, IsManagerOf};
-ghost use Rattle.two_lives.specs.Lives.{HasSentAlone, HasStopped, HasTaken, IsNew};
+ghost use Rattle.link_threads.specs.Lives.{HasSentAlone, HasStopped, HasTaken, IsNew};
 
 use crate::users::{Found, Stopped, send_and_stop, take_one};
 use channel_bus::Side;

@@ -1,6 +1,6 @@
 use Rattle.std.proofs.Common.{◌∙◌}
-use Rattle.two_lives.proofs.Takes.{grown_then}
-use Rattle.two_lives.proofs.users.give_back.Goals as goal
+use Rattle.link_threads.proofs.Takes.{grown_then}
+use Rattle.link_threads.proofs.users.give_back.Goals as goal
 
 pub returns-in-Ok-clause-grown : goal.returns-in-Ok-clause-grown
 returns-in-Ok-clause-grown g c =

@@ -1,7 +1,7 @@
 use Rattle.std.proofs.Common.{arith, refl}
 use Rattle.std.specs.Prelude.{IsTrue}
 use Rattle.std.specs.Int.{is_power_of_two}
-use Rattle.two_lives.proofs.lives.run.Goals as goal
+use Rattle.link_threads.proofs.lives.run.Goals as goal
 
 power : IsTrue (is_power_of_two 4)
 unfolding lib.Count.ones

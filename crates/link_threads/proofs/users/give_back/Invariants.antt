@@ -1,6 +1,6 @@
 use Rattle.split_ring.specs.Callers.{Holds, IsAfterCall}
-use Rattle.two_lives.specs.Lives.{HasGrown}
-use Rattle.two_lives.proofs.users.give_back.Given as goal
+use Rattle.link_threads.specs.Lives.{HasGrown}
+use Rattle.link_threads.proofs.users.give_back.Given as goal
 
 -- the caller is in no call, and has the buffer in hand
 abbrev pub invariant-loop : goal.invariant-loop

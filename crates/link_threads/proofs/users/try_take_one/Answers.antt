@@ -1,6 +1,6 @@
 use Rattle.std.proofs.Common.{◌∙◌}
-use Rattle.two_lives.proofs.Takes.{took}
-use Rattle.two_lives.proofs.users.try_take_one.Goals as goal
+use Rattle.link_threads.proofs.Takes.{took}
+use Rattle.link_threads.proofs.users.try_take_one.Goals as goal
 
 pub returns-clause-taken : goal.returns-clause-taken
 returns-clause-taken g c =
