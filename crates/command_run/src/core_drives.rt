@@ -20,10 +20,10 @@ use crash_recover::{DriveOutcome, Reach};
 use journal::Event;
 use lane_model::CallEnd;
 use link_commands::{Stop, event, tell_reach};
-use run_log::RunLog;
 use remote_code::WorkerFault;
 use rp_base::{CallerNo, CrashKind, Inc, LifeState, NoMemory, STEPS_MOST};
 use rp_io::Sink;
+use run_log::RunLog;
 
 /// After how many steps of a drive it is looked whether what is kept is a whole piece.
 pub const STRETCH: u64 = 1_024;

@@ -11,8 +11,8 @@ use crash_recover::Core;
 use image_report::table_rows;
 use journal::{Event, TableLine};
 use link_commands::{CoreView, event};
-use run_log::RunLog;
 use rp_base::{Da, Data, Name, NoMemory};
+use run_log::RunLog;
 
 impl NamedCore {
     /// Tells what the core shows.

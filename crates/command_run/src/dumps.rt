@@ -14,8 +14,8 @@ use crash_recover::Core;
 use fw_load::Loaded;
 use journal::Event;
 use link_commands::Stop;
-use run_log::RunLog;
 use rp_base::{Da, IMAGE_MOST, LifeState, Name, NoMemory};
+use run_log::RunLog;
 use std::alloc::Global;
 
 /// How many dumps a script may keep.

@@ -4,10 +4,10 @@ ghost use Rattle.link_commands.specs.Recoveries.{close_effect, reopen_effect, re
 
 use crate::event_fields::event;
 use crate::{NamedBench, Stop};
-use run_log::RunLog;
 use journal::Event;
 use lane_model::{Already, ReopenFault};
 use rp_base::{Era, Name, NoMemory};
+use run_log::RunLog;
 
 impl NamedBench {
     /// Closes the link, in one step.

@@ -4,11 +4,11 @@ ghost use Rattle.program_status.specs.declared.statuses.Status.TheVariants as en
 ghost use Rattle.script_run.specs.Endings.{IsFinal, Writes};
 ghost use Rattle.script_run.specs.Delivery.{Tells};
 
-use program_status::Status;
 use command_run::OutputFault;
 use journal::Notice;
-use run_log::RunLog;
+use program_status::Status;
 use rp_io::{Sink, write_whole};
+use run_log::RunLog;
 use std::alloc::Global;
 
 /// Writes these lines, and ends so where all was written.
