@@ -12,7 +12,7 @@ use Rattle.journal.specs.Lines.{transcript}
 use Rattle.crash_recover.specs.Cores.{CoreState}
 use Rattle.crash_recover.specs.CoreCallers.{core_channels, core_receiver}
 use Rattle.link_commands.specs.declared.acts.LinkView.TheVariants as view
-use Rattle.link_commands.specs.Logs.{LogState}
+use Rattle.run_log.specs.Logs.{LogState}
 use Rattle.link_commands.specs.LinkCommands.{view_events}
 use Rattle.link_commands.specs.ChannelLists.{channels_events, found_channels}
 use Rattle.link_commands.proofs.FoundChannels.{found_is}

@@ -16,7 +16,7 @@ use Rattle.crash_recover.specs.CoreCrashes.{first_report, report_as, report_of}
 use Rattle.crash_recover.specs.Drives.{DriveStep, actor_step, actor_to_step, core_with_report, drive_step, host_step, is_idle, placed_map, record_run, record_step, run_by, step_with_report, with_turn_after, worker_call}
 use Rattle.link_commands.specs.declared.stops.Stop.{Stop}
 use Rattle.rp_io.specs.Contents.{AppendsFront}
-use Rattle.link_commands.specs.Logs.{Hands, Keeps, KeepsLess, LogState}
+use Rattle.run_log.specs.Logs.{Hands, Keeps, KeepsLess, LogState}
 use Rattle.command_run.specs.declared.core_drives.TheConstants.{STRETCH}
 use Rattle.command_run.specs.Outcomes.{CutsCore, DrivesHanding, DrivesOn, HandsCoreEffect, HasCoreEffect, KeepsLast, KeepsWhole}
 use Rattle.command_run.specs.CoreEffects.{CoreEffect, core_tells}

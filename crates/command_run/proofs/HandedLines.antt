@@ -7,7 +7,7 @@ use Rattle.rp_io.specs.Contents.{AppendsFront}
 use Rattle.command_run.specs.declared.faults.OutputFault.{OutputFault}
 use Rattle.command_run.specs.declared.faults.OutputFault.TheVariants as output_fault
 use Rattle.command_run.specs.Fetches.{IfSinkFailed}
-use Rattle.link_commands.specs.Logs.{Hands}
+use Rattle.run_log.specs.Logs.{Hands}
 
 -- nothing was appended
 pub appends_nothing : (written : Option (List ℕ)) → Appends written written []

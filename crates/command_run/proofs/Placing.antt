@@ -15,7 +15,8 @@ use Rattle.command_run.specs.NamedImages.{ImageState}
 use Rattle.link_commands.specs.declared.stops.Stop.{Stop}
 use Rattle.lane_model.specs.declared.calls.LinkConfig.{LinkConfig}
 use Rattle.link_bench.specs.Benches.{BenchState, new_bench_of}
-use Rattle.link_commands.specs.Logs.{KeepsLess, LogState, HasEffect}
+use Rattle.run_log.specs.Logs.{KeepsLess, LogState}
+use Rattle.link_commands.specs.Logs.{HasEffect}
 use Rattle.command_run.specs.Outcomes.{CutsCore, CutsRun, HandsCoreEffect, HandsRunEffect, HasCoreEffect, HasRunEffect, KeepsWhole}
 use Rattle.command_run.specs.Fetches.{KeepsDriven, drive_line}
 use Rattle.rp_io.specs.declared.faults.NoImage.TheVariants as no_image

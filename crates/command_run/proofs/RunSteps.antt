@@ -6,7 +6,7 @@ use Rattle.journal.specs.declared.events.Event.{Event}
 use Rattle.link_commands.specs.declared.stops.Stop.{Stop}
 use Rattle.command_run.specs.Stores.{Shelf, StoreAnswers, answer_for, later_answers, store_answer}
 use Rattle.rp_io.specs.declared.faults.NoImage.TheVariants as no_image
-use Rattle.link_commands.specs.Logs.{LogState}
+use Rattle.run_log.specs.Logs.{LogState}
 use Rattle.command_run.specs.Outcomes.{HandsRunEffect}
 use Rattle.command_run.specs.Runs.{AsksNone, IfGoesOn, ObjectsState, RunEffect, RunState, Run, asked_name, run_on, run_from, run_on_answer, effect_of}
 

@@ -19,7 +19,7 @@ use Rattle.command_run.specs.CoreEffects.{core_tells_all}
 use Rattle.command_run.specs.CoreLives.{found_image, start_effect, start_events, start_name, start_with, started_effect}
 use Rattle.command_run.specs.Faults.{store_command_fault}
 use Rattle.command_run.specs.Fetches.{DidTold, RunsTold}
-use Rattle.link_commands.specs.Logs.{LogState}
+use Rattle.run_log.specs.Logs.{LogState}
 use Rattle.command_run.specs.Outcomes.{HandsRunEffect, HasCoreEffect, HasRunEffect}
 use Rattle.command_run.specs.NamedCores.{NamedCoreState}
 use Rattle.command_run.specs.NamedImages.{ImageState}

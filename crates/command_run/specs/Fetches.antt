@@ -18,7 +18,7 @@ use Rattle.link_commands.specs.declared.stops.Stop.{Stop}
 use Rattle.link_commands.specs.Acts.{line_of}
 use Rattle.command_run.specs.Stores.{IsShelf, Shelf, answer_for}
 use Rattle.command_run.specs.Runs.{ObjectsState, RunState, asked_name, core_under, effect_of, line_effect}
-use Rattle.link_commands.specs.Logs.{KeepsLess, LogState}
+use Rattle.run_log.specs.Logs.{KeepsLess, LogState}
 use Rattle.command_run.specs.Outcomes.{CutsRun, HandsRunEffect, KeepsWhole}
 
 -- a command did what it does over what the store has, and some lines were handed on meanwhile

@@ -4,9 +4,9 @@ use Rattle.rp_io.specs.Contents.{AppendsFront}
 use Rattle.journal.specs.declared.events.Event.{Event}
 use Rattle.journal.specs.Lines.{transcript}
 use Rattle.crash_recover.specs.Cores.{CoreState}
-use Rattle.link_commands.specs.declared.logs.TheConstants.{PIECE}
+use Rattle.run_log.specs.declared.logs.TheConstants.{PIECE}
 use Rattle.link_commands.specs.declared.stops.Stop.{Stop}
-use Rattle.link_commands.specs.Logs.{Hands, LogState}
+use Rattle.run_log.specs.Logs.{Hands, LogState}
 use Rattle.command_run.specs.declared.core_drives.TheConstants.{STRETCH}
 use Rattle.command_run.specs.CoreEffects.{CoreEffect}
 use Rattle.command_run.specs.CoreDrives.{IsDriven, drive_steps, effect_behind}

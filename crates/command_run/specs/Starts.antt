@@ -17,7 +17,7 @@ use Rattle.command_run.specs.declared.fetches.FoundImage.{FoundImage}
 use Rattle.command_run.specs.declared.fetches.FoundImage.TheVariants as found_image
 use Rattle.link_commands.specs.declared.stops.Stop.{Stop}
 use Rattle.command_run.specs.CoreLives.{found_image as image_of_name, made_image, start_with, started_effect}
-use Rattle.link_commands.specs.Logs.{LogState}
+use Rattle.run_log.specs.Logs.{LogState}
 use Rattle.command_run.specs.Outcomes.{HasCoreEffect}
 use Rattle.command_run.specs.NamedCores.{NamedCoreState}
 use Rattle.command_run.specs.NamedImages.{ImageState}

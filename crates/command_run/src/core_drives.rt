@@ -1,7 +1,7 @@
 ghost use Rattle.std.specs.Prelude.{◌≡◌, ◌==◌, ◌≤◌, ◌+◌, ◌||◌, ◌⊎◌, ◌∷◌, ◌++◌, not, true, IfOk, IfErr, IfSome, OnOk};
 ghost use Rattle.journal.specs.declared.events.Event.TheVariants as event;
 ghost use Rattle.journal.specs.Lines.{transcript};
-ghost use Rattle.link_commands.specs.Logs.{Keeps, KeepsLess};
+ghost use Rattle.run_log.specs.Logs.{Keeps, KeepsLess};
 ghost use Rattle.command_run.specs.Outcomes.{CutsCore, DrivesHanding, DrivesOn, HandsCoreEffect, HasCoreEffect, KeepsWhole};
 ghost use Rattle.command_run.specs.Fetches.{EndsCut, IfSinkFailed};
 ghost use Rattle.rp_base.specs.declared.limits.TheConstants.{STEPS_MOST};
@@ -19,10 +19,11 @@ use crate::{NamedCore, OutputFault};
 use crash_recover::{DriveOutcome, Reach};
 use journal::Event;
 use lane_model::CallEnd;
-use link_commands::{RunLog, Stop, event, tell_reach};
+use link_commands::{Stop, event, tell_reach};
 use remote_code::WorkerFault;
 use rp_base::{CallerNo, CrashKind, Inc, LifeState, NoMemory, STEPS_MOST};
 use rp_io::Sink;
+use run_log::RunLog;
 
 /// After how many steps of a drive it is looked whether what is kept is a whole piece.
 pub const STRETCH: u64 = 1_024;

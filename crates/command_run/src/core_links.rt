@@ -10,10 +10,9 @@ ghost use Rattle.command_run.specs.CoreLinks.{core_link_effect, core_ring_events
 use crate::NamedCore;
 use crash_recover::{Core, LinkAct};
 use journal::Event;
-use link_commands::{
-    LinkView, RunLog, Stop, event, tell_answer, tell_books, tell_bytes, tell_channels,
-};
+use link_commands::{LinkView, Stop, event, tell_answer, tell_books, tell_bytes, tell_channels};
 use rp_base::{CallerNo, NoMemory};
+use run_log::RunLog;
 
 impl NamedCore {
     /// Does an act on the core's link for callers that are not the core's own.

@@ -11,10 +11,11 @@ ghost use Rattle.command_run.specs.CoreLives.{crash_effect, detach_effect, fault
 use crate::NamedCore;
 use crash_recover::{CALLER_OUT, Crash, Leave, LeaveFault, RINGS_CHANGED, Start, StartFault};
 use journal::Event;
-use link_commands::{RunLog, StartAct, Stop, event, reopen_fault_event};
+use link_commands::{StartAct, Stop, event, reopen_fault_event};
 use proc_state::LifeFault;
 use rp_base::{CrashKind, Inc, Name, NoMemory, STEPS_MOST};
 use rp_io::NoImage;
+use run_log::RunLog;
 
 impl NamedCore {
     /// The name of the image with which the core is started: for a recovery that with which it was

@@ -3,15 +3,16 @@ ghost use Rattle.std.specs.Option.{option_copied};
 ghost use Rattle.rp_base.specs.Texts.{text_before_zero};
 ghost use Rattle.journal.specs.Lines.{transcript};
 ghost use Rattle.link_commands.specs.Acts.{IsFitCoreView};
-ghost use Rattle.link_commands.specs.Logs.{Keeps};
+ghost use Rattle.run_log.specs.Logs.{Keeps};
 ghost use Rattle.command_run.specs.CoreViews.{core_view_events, memory_event, state_event, table_event, table_events, trace_bytes, trace_event};
 
 use crate::NamedCore;
 use crash_recover::Core;
 use image_report::table_rows;
 use journal::{Event, TableLine};
-use link_commands::{CoreView, RunLog, event};
+use link_commands::{CoreView, event};
 use rp_base::{Da, Data, Name, NoMemory};
+use run_log::RunLog;
 
 impl NamedCore {
     /// Tells what the core shows.

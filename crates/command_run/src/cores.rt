@@ -10,9 +10,10 @@ use crate::ScriptImage;
 use crate::core_lives::fault_at;
 use crash_recover::{AddFault, Core};
 use journal::Event;
-use link_commands::{CoreAct, NamedAct, RunLog, Stop, event};
+use link_commands::{CoreAct, NamedAct, Stop, event};
 use memory_pool::Region;
 use rp_base::{DriverKind, Name, NoMemory, Switch};
+use run_log::RunLog;
 use std::marker::Model;
 
 /// A core of a script, with its name.

@@ -13,8 +13,9 @@ use core_dump::{Part, dump_len, write_dump};
 use crash_recover::Core;
 use fw_load::Loaded;
 use journal::Event;
-use link_commands::{RunLog, Stop};
+use link_commands::Stop;
 use rp_base::{Da, IMAGE_MOST, LifeState, Name, NoMemory};
+use run_log::RunLog;
 use std::alloc::Global;
 
 /// How many dumps a script may keep.

@@ -13,9 +13,10 @@ ghost use Rattle.link_commands.specs.Acts.{bare_line};
 
 use crate::faults::CommandFault;
 use crate::{Objects, ScriptImage};
-use link_commands::{CoreAct, Line, NamedAct, RunLog, Stop, line_of};
+use link_commands::{CoreAct, Line, NamedAct, Stop, line_of};
 use rp_base::{IMAGE_MOST, Name};
 use rp_io::{FirmwareStore, NoImage, Sink, StoreFault, bytes_of, look_up_bytes};
+use run_log::RunLog;
 use script_lang::{Command, Recipe};
 use std::alloc::Global;
 
@@ -120,7 +121,7 @@ pub(crate) fn script_image<'a>(images: &'a [ScriptImage], name: &[u8]) -> FoundI
 }
 
 /// The bytes of the first image of this name.
-fn image_bytes<'a>(images: &'a [ScriptImage], name: &[u8]) -> Option<&'a [u8]>
+pub(crate) fn image_bytes<'a>(images: &'a [ScriptImage], name: &[u8]) -> Option<&'a [u8]>
     ensures { option_copied result ≡ image_bytes images.now name.now }
 {
     let image = images.iter().find(|image| image.name.bytes() == name)?;

@@ -9,10 +9,11 @@ ghost use Rattle.command_run.specs.Starts.{Begins, NeedsImage, StartsOver, start
 use crate::fetches::{find_image, script_image};
 use crate::{NamedCore, ScriptImage};
 use crash_recover::{Boot, Core, Start, StartFault};
-use link_commands::{RunLog, StartAct, Stop};
+use link_commands::{StartAct, Stop};
 use proc_state::Life;
 use rp_base::{Name, NoMemory};
 use rp_io::{FirmwareStore, NoImage, StoreFault};
+use run_log::RunLog;
 use std::alloc::Global;
 
 /// How far a start of a core comes without an image.

@@ -1,11 +1,10 @@
 use crate::stores::store_of;
-use crash_recover::{BenchFault, Core, Reach, Reclaim};
+use crash_recover::{Core, Reach, Reclaim};
 use lane_model::{CallEnd, Wish};
 use memory_pool::Regions;
 use rp_base::{CallerNo, End};
 use std::alloc::Global;
 use std::test::Fail;
-use vring_layout::SnapshotFault;
 
 /// Whether the next caller at the host is this one.
 fn joins(core: &mut Core, caller: CallerNo) -> bool {
@@ -21,14 +20,6 @@ fn begins(core: &mut Core, caller: CallerNo) -> bool {
         return false;
     };
     core.begin(caller, Wish::Bind(1024)).is_ok()
-}
-
-/// Whether a call of this caller is refused as of one that isn't in use.
-fn is_no_caller(core: &mut Core, caller: CallerNo) -> bool {
-    let Some(_) = core.link() else {
-        return false;
-    };
-    matches!(core.begin(caller, Wish::Take), Err(BenchFault::NoCaller))
 }
 
 /// Whether a step of this caller is the one of this number, and its call goes on.
@@ -48,25 +39,6 @@ fn binds(core: &mut Core, alloc: Global, caller: CallerNo) -> bool {
         core.step(alloc, caller),
         Ok(Reach::Ended(CallEnd::Bound(endpoint))) if endpoint.address == 1024
     )
-}
-
-/// Whether channels are refused since this caller has the turn.
-fn is_out(core: &mut Core, alloc: Global, caller: CallerNo) -> bool {
-    let Some(_) = core.link() else {
-        return false;
-    };
-    matches!(core.channels(alloc), Err(SnapshotFault::StillTurn(holder)) if holder == caller)
-}
-
-/// Whether there are channels to be told, and none is there.
-fn has_no_channel(core: &mut Core, alloc: Global) -> bool {
-    let Some(_) = core.link() else {
-        return false;
-    };
-    match core.channels(alloc) {
-        Ok(channels) => channels.is_empty(),
-        Err(_) => false,
-    }
 }
 
 /// Whether the rings are those of a new link, the buffers of lane 1 behind the 16 of lane 0.
@@ -99,13 +71,10 @@ fn a_caller_of_a_core_binds_an_endpoint(rt: HostRuntime) -> Result<(), Fail> {
     let mut core = Core::new(alloc, Regions::standard(alloc)?, Vec::new(alloc), 16)?;
     assert!(rt; core.boot(alloc, "fw", &mut store).is_ok());
     assert!(rt; joins(&mut core, 2));
-    assert!(rt; is_no_caller(&mut core, 0));
     assert!(rt; begins(&mut core, 2));
     assert!(rt; goes_on(&mut core, alloc, 2, 1));
-    assert!(rt; is_out(&mut core, alloc, 2));
     assert!(rt; goes_on(&mut core, alloc, 2, 2));
     assert!(rt; binds(&mut core, alloc, 2));
-    assert!(rt; has_no_channel(&mut core, alloc));
     assert!(rt; is_shown(&mut core, alloc));
     assert!(rt; is_kept(&mut core, 2));
     Ok(())

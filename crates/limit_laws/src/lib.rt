@@ -16,7 +16,7 @@ ghost use Rattle.crash_recover.specs.declared.core_acts.TheConstants.{OWN_CALLER
 ghost use Rattle.crash_recover.specs.declared.core_faults.TheConstants.{CALLER_OUT, RINGS_CHANGED};
 ghost use Rattle.command_run.specs.declared.core_drives.TheConstants.{STRETCH};
 ghost use Rattle.command_run.specs.declared.dumps.TheConstants.{DUMPS_MOST};
-ghost use Rattle.link_commands.specs.declared.logs.TheConstants.{PIECE};
+ghost use Rattle.run_log.specs.declared.logs.TheConstants.{PIECE};
 ghost use Rattle.lane_model.specs.Links.{LinkState};
 ghost use Rattle.channel_bus.specs.Sides.{EndState};
 ghost use Rattle.link_bench.specs.declared.acts.ActAnswer.{ActAnswer};

@@ -6,12 +6,13 @@ ghost use Rattle.link_bench.specs.Acts.{HoldsAnswerTaken};
 ghost use Rattle.link_bench.specs.Benches.{HoldsReachTaken, link_in};
 ghost use Rattle.link_bench.specs.Turns.{HoldsEndTaken};
 
+use crate::Stop;
 use crate::call_events::{end_event, fault_event};
-use crate::logs::event;
-use crate::{RunLog, Stop};
+use crate::event_fields::event;
 use journal::Event;
 use link_bench::{ActAnswer, Bench, Reach, Reclaim, TurnEnd};
 use rp_base::{CallerNo, Era, Name, NoMemory};
+use run_log::RunLog;
 
 /// Tells what came of an act on the link of this name, which stands as the act left it, and answers why
 /// the run stops with it, if it does.

@@ -2,7 +2,7 @@ ghost use Rattle.std.specs.Prelude.{◌≡◌, IfOk};
 ghost use Rattle.link_commands.specs.CallEvents.{end_event, fault_event, refused_event, took_event};
 ghost use Rattle.link_bench.specs.Benches.{HoldsTaken, link_in};
 
-use crate::logs::event;
+use crate::event_fields::event;
 use journal::Event;
 use lane_model::CallEnd;
 use link_bench::{Bench, BenchFault};

@@ -2,10 +2,11 @@ ghost use Rattle.std.specs.Prelude.{◌≡◌, ◌++◌, IsSomeAnd, OnOk, map};
 ghost use Rattle.journal.specs.Lines.{transcript};
 ghost use Rattle.link_commands.specs.ChannelLists.{channel_event, found_channels};
 
-use crate::logs::{RunLog, event};
+use crate::event_fields::event;
 use journal::Event;
 use name_service::Channel;
 use rp_base::{Name, NoMemory};
+use run_log::RunLog;
 use vring_layout::SnapshotFault;
 
 /// Tells the channels that the host end of the link of this name knows, one a line, or who has the turn

@@ -5,8 +5,8 @@ mod act_events;
 mod acts;
 mod call_events;
 mod channel_lists;
+mod event_fields;
 mod links;
-mod logs;
 mod recoveries;
 mod rings;
 mod stops;
@@ -17,7 +17,6 @@ pub use acts::{
 };
 pub use channel_lists::tell_channels;
 pub use links::{NamedBench, tell_books};
-pub use logs::{PIECE, RunLog};
 pub use recoveries::reopen_fault_event;
 pub use rings::tell_bytes;
 pub use stops::Stop;

@@ -11,10 +11,11 @@ ghost use Rattle.link_commands.specs.Logs.{HasEffect};
 use crate::act_events::tell_answer;
 use crate::channel_lists::tell_channels;
 use crate::rings::tell_ring;
-use crate::{LinkView, ManagerAct, NamedAct, RunLog, Stop};
+use crate::{LinkView, ManagerAct, NamedAct, Stop};
 use journal::Event;
 use link_bench::{Bench, LinkAct, Nobody};
 use rp_base::{Name, NoMemory};
+use run_log::RunLog;
 use std::marker::Model;
 
 /// A link of a script, with its name.

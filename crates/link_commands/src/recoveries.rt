@@ -2,11 +2,12 @@ ghost use Rattle.std.specs.Prelude.{◌≡◌, ◌∷◌, [], IfOk};
 ghost use Rattle.link_commands.specs.Logs.{HasEffect};
 ghost use Rattle.link_commands.specs.Recoveries.{close_effect, reopen_effect, reopen_events};
 
-use crate::logs::event;
-use crate::{NamedBench, RunLog, Stop};
+use crate::event_fields::event;
+use crate::{NamedBench, Stop};
 use journal::Event;
 use lane_model::{Already, ReopenFault};
 use rp_base::{Era, Name, NoMemory};
+use run_log::RunLog;
 
 impl NamedBench {
     /// Closes the link, in one step.

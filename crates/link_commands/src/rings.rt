@@ -3,10 +3,11 @@ ghost use Rattle.std.specs.List.{list_all};
 ghost use Rattle.journal.specs.Lines.{transcript};
 ghost use Rattle.link_commands.specs.RingDumps.{bench_ring_events, dump_rows, ring_events, row_count, row_events};
 
-use crate::logs::{RunLog, event};
+use crate::event_fields::event;
 use journal::Event;
 use link_bench::Bench;
 use rp_base::{Data, Name, NoMemory};
+use run_log::RunLog;
 
 /// The bytes of a line that tells of a ring.
 const ROW: usize = 16;

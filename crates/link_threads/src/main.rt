@@ -1,17 +1,21 @@
 // Eight callers of one link, four on each end, each on a thread of its own: each sends and takes its messages, and each number that was
 // handed over is compared with the book of its lane. Then two senders of another link take the steps of their calls in turns, a manager has a
-// message go between two callers that it carries, another reclaims a caller that stopped in a send, and a managed link lives twice.
+// message go between two callers that it carries, another reclaims a caller that stopped in a send, and a managed link lives twice. Last a link
+// that two threads share lives twice: in its first life a sender stops in the middle of a send, with the turn and a buffer. The link is closed,
+// what the sender had is reclaimed, and the link is opened again; in the second life a new sender is heard, and nothing of the old one.
 #![tactic(auto)]
 
 ghost use Rattle.split_ring.specs.Callers.{IsCallerOf};
 
 mod books;
 mod carried;
+mod lives;
 mod managed;
 mod small_links;
 mod stopped;
 mod threads;
 mod turns;
+mod users;
 mod workers;
 
 use crate::books::Book;
@@ -55,8 +59,28 @@ fn main(rt: HostRuntime) -> io::Result<()> {
         Err(_) => println!(rt; "no memory")?,
     }
     match can_manage(rt.alloc()) {
-        Ok(managed) => println!(rt; "a managed link lives twice, and a caller goes on: {managed}"),
-        Err(_) => println!(rt; "no memory"),
+        Ok(managed) => println!(rt; "a managed link lives twice, and a caller goes on: {managed}")?,
+        Err(_) => println!(rt; "no memory")?,
+    }
+    write_lives(&rt)
+}
+
+/// Has the link live twice, and writes what came of each life.
+fn write_lives<R: AllocGlobal + Print + Threads + Sync>(rt: &R) -> io::Result<()> {
+    match lives::run(rt, rt.alloc()) {
+        Ok(lives) => {
+            println!(rt; "life 1: {}", lives.first)?;
+            let books = &lives.books;
+            println!(rt;
+                "incarnation {}: {} accepted, {} handed over",
+                books.inc,
+                books.to_host.len(),
+                books.to_host_handed
+            )?;
+            println!(rt; "life 2: {}", lives.second)?;
+            println!(rt; "closed by its caller: {}", lives.is_closed)
+        }
+        Err(halt) => println!(rt; "halted: {halt:?}"),
     }
 }
 

@@ -1,14 +1,22 @@
-// Runs each row of the folder `rows` over devices in memory, and writes its name, its status and its output.
+// Runs each row of the folder `rows` over devices in memory, and writes its name, its status and its output. Then two threads go on over the
+// link that a script leaves, and two storms run, each caller on a thread of its own.
 #![tactic(auto)]
 
 mod devices;
+mod goes_on;
+mod meetings;
 mod rows;
+mod storms;
+mod threads;
 
 use crate::devices::calls;
 use crate::rows::{Row, names_in};
+use crate::storms::run_storms;
+use crate::threads::run_threads;
 use rp_io::{MemorySink, MemorySource, MemoryStore};
 use script_run::{Yard, run_program};
 use std::alloc::{AllocError, Global};
+use std::fs;
 use std::io::{self, Write};
 use std::sync::Wait;
 use std::thread::Threads;
@@ -19,7 +27,8 @@ fn main(rt: HostRuntime) -> io::Result<()> {
         let row = Row::read(&rt, name.as_str())?;
         run_row(&rt, name.as_str(), row, &mut out)?;
     }
-    Ok(())
+    run_threads(&rt, fs::read(&rt, "threads/script")?, &mut out)?;
+    run_storms(&rt, &mut out)
 }
 
 /// Runs the program over what a row has.

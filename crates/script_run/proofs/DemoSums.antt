@@ -19,7 +19,7 @@ use Rattle.script_run.specs.declared.demos.DemoFault.{DemoFault}
 use Rattle.script_run.specs.declared.demos.DemoFault.TheVariants as fault
 use Rattle.link_commands.specs.declared.stops.Stop.{Stop}
 use Rattle.command_run.specs.Stores.{answer_for, later_answers, store_of}
-use Rattle.link_commands.specs.Logs.{LogState}
+use Rattle.run_log.specs.Logs.{LogState}
 use Rattle.command_run.specs.Outcomes.{HasRunEffect}
 use Rattle.command_run.specs.Runs.{ObjectsState, Run, RunState, asked_name, effect_of, new_run, run_from, run_of, run_on}
 use Rattle.script_run.specs.Demos.{counts_from, accepted_sum, bare_effect, commands_output, counted_output, demo_output, drive_counts, no_counts}

@@ -21,9 +21,9 @@ use Rattle.script_lang.specs.declared.commands.Command.{Command}
 use Rattle.script_lang.specs.Grammar.{Refusal, bad_line, script_of}
 use Rattle.image_maker.specs.Demo.{demo_text}
 use Rattle.script_run.specs.declared.demos.AcceptedCounts.{AcceptedCounts}
-use Rattle.script_run.specs.declared.statuses.Status.{Status}
-use Rattle.script_run.specs.declared.statuses.Status.TheVariants as status
-use Rattle.script_run.specs.Statuses.{status_number, status_of}
+use Rattle.program_status.specs.declared.statuses.Status.{Status}
+use Rattle.program_status.specs.declared.statuses.Status.TheVariants as status
+use Rattle.program_status.specs.Statuses.{status_number, status_of}
 use Rattle.link_commands.specs.declared.stops.Stop.{Stop}
 use Rattle.link_commands.specs.declared.stops.Stop.TheVariants as stop
 use Rattle.command_run.specs.declared.faults.OutputFault.{OutputFault}

@@ -7,8 +7,8 @@ use Rattle.word_kinds.specs.Lines.{line_of}
 use Rattle.journal.specs.Notices.{notice_line}
 use Rattle.command_run.specs.declared.faults.OutputFault.{OutputFault}
 use Rattle.command_run.specs.declared.faults.OutputFault.TheVariants as output_fault
-use Rattle.script_run.specs.declared.statuses.Status.{Status}
-use Rattle.script_run.specs.declared.statuses.Status.TheVariants as status
+use Rattle.program_status.specs.declared.statuses.Status.{Status}
+use Rattle.program_status.specs.declared.statuses.Status.TheVariants as status
 use Rattle.script_run.specs.Outputs.{Output, read_fault_output, store_fault_output}
 use Rattle.script_run.specs.Delivery.{EndsRun}
 

@@ -4,7 +4,7 @@ use Rattle.rp_io.specs.Images.{ImageAnswer, IsToldUnder}
 use Rattle.journal.specs.declared.notices.Notice.{Notice}
 use Rattle.journal.specs.Notices.{report_text}
 use Rattle.image_report.specs.declared.reports.ImageReport.{ImageReport}
-use Rattle.script_run.specs.declared.statuses.Status.TheVariants as status
+use Rattle.program_status.specs.declared.statuses.Status.TheVariants as status
 use Rattle.image_report.specs.Reports.{IsImageReport, Report}
 use Rattle.script_run.specs.Reports.{report_of_fetch}
 use Rattle.script_run.specs.Outputs.{Output, report_output}

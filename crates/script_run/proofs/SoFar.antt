@@ -9,7 +9,7 @@ use Rattle.script_lang.specs.declared.commands.Command.{Command}
 use Rattle.script_lang.specs.declared.commands.Command.TheVariants as command
 use Rattle.journal.specs.declared.events.Event.{Event}
 use Rattle.journal.specs.Lines.{transcript}
-use Rattle.script_run.specs.declared.statuses.Status.{Status}
+use Rattle.program_status.specs.declared.statuses.Status.{Status}
 use Rattle.link_commands.specs.declared.stops.Stop.{Stop}
 use Rattle.command_run.specs.declared.faults.OutputFault.{OutputFault}
 use Rattle.command_run.specs.declared.faults.OutputFault.TheVariants as output_fault
@@ -18,7 +18,7 @@ use Rattle.command_run.specs.Stores.{IsHeld, IsShelf, Shelf, StoreAnswers, answe
 use Rattle.command_run.specs.Runs.{ObjectsState, RunEffect, RunState, Run, asked_name, effect_of, line_effect, run_from, run_of, new_run}
 use Rattle.script_run.specs.Outputs.{Output, end_output, stop_output, store_fault_output, transcript_output}
 use Rattle.script_run.specs.Endings.{IsFailedRun, IsWellRun}
-use Rattle.link_commands.specs.Logs.{Hands, KeepsLess, LogState}
+use Rattle.run_log.specs.Logs.{Hands, KeepsLess, LogState}
 use Rattle.command_run.specs.Outcomes.{HandsRunEffect, KeepsLast}
 use Rattle.command_run.specs.Fetches.{DidTold, IsCutCommand, IsToldCut, drive_line}
 use Rattle.script_run.specs.Delivery.{AnswersStatus, EndsRun, IsResultCourse, RunWrites, StandsFor, Tells}

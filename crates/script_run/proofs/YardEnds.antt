@@ -10,8 +10,8 @@ use Rattle.script_lang.specs.Grammar.{Refusal, script_of}
 use Rattle.link_commands.specs.declared.stops.Stop.{Stop}
 use Rattle.link_commands.specs.declared.stops.Stop.TheVariants as stop
 use Rattle.command_run.specs.Runs.{ObjectsState, run_of}
-use Rattle.script_run.specs.declared.statuses.Status.{Status}
-use Rattle.script_run.specs.declared.statuses.Status.TheVariants as status
+use Rattle.program_status.specs.declared.statuses.Status.{Status}
+use Rattle.program_status.specs.declared.statuses.Status.TheVariants as status
 use Rattle.script_run.specs.Outputs.{Form, other, run, check, demo, storm, audit, Output, read_fault_output, stop_output, store_fault_output}
 use Rattle.script_run.specs.Endings.{Devices, IsReadWell, OfSource, RunEnds, Writes}
 use Rattle.script_run.specs.Yards.{Leaves, ScriptLeaves, SourceLeaves, TextLeaves}

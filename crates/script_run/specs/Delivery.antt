@@ -4,7 +4,7 @@ use Rattle.std.specs.Io.KnownBytes.{Appends}
 use Rattle.rp_io.specs.Causes.{Rose}
 use Rattle.rp_io.specs.Contents.{AppendsFront}
 use Rattle.script_lang.specs.declared.commands.Command.{Command}
-use Rattle.script_run.specs.declared.statuses.Status.{Status}
+use Rattle.program_status.specs.declared.statuses.Status.{Status}
 use Rattle.command_run.specs.declared.faults.OutputFault.{OutputFault}
 use Rattle.command_run.specs.declared.faults.OutputFault.TheVariants as output_fault
 use Rattle.command_run.specs.Stores.{StoreAnswers}

@@ -9,7 +9,7 @@ use Rattle.journal.specs.declared.notices.Notice.TheVariants as notice
 use Rattle.journal.specs.Notices.{report_text}
 use Rattle.link_bench.specs.Benches.{BenchState, link_in}
 use Rattle.script_run.specs.declared.demos.AcceptedCounts.{AcceptedCounts}
-use Rattle.script_run.specs.declared.statuses.Status.TheVariants as status
+use Rattle.program_status.specs.declared.statuses.Status.TheVariants as status
 use Rattle.link_commands.specs.declared.stops.Stop.{Stop}
 use Rattle.command_run.specs.Stores.{answer_for, store_of}
 use Rattle.command_run.specs.NamedCores.{NamedCoreState}

@@ -12,8 +12,8 @@ use Rattle.journal_check.specs.declared.limits.TheConstants.{TRANSCRIPT_MOST}
 use Rattle.journal_check.specs.declared.answers.Audit.{Audit}
 use Rattle.journal_check.specs.Lines.{lines_of}
 use Rattle.journal_check.specs.Audits.{IsAudit}
-use Rattle.script_run.specs.declared.statuses.Status.{Status}
-use Rattle.script_run.specs.declared.statuses.Status.TheVariants as status
+use Rattle.program_status.specs.declared.statuses.Status.{Status}
+use Rattle.program_status.specs.declared.statuses.Status.TheVariants as status
 use Rattle.script_lang.specs.declared.commands.Command.{Command}
 use Rattle.script_lang.specs.Grammar.{Refusal, script_of}
 use Rattle.command_run.specs.Runs.{AsksNone, new_run}

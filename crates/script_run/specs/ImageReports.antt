@@ -2,7 +2,7 @@
 use Rattle.std.specs.Prelude.{if◌then◌else◌}
 use Rattle.journal.specs.Notices.{report_text}
 use Rattle.image_report.specs.declared.reports.ImageReport.{ImageReport}
-use Rattle.script_run.specs.declared.statuses.Status.TheVariants as status
+use Rattle.program_status.specs.declared.statuses.Status.TheVariants as status
 use Rattle.script_run.specs.Outputs.{Output}
 
 -- the output of a report

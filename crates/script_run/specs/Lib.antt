@@ -1,4 +1,3 @@
-pub mod Statuses
 pub mod Reports
 pub mod Requests
 pub mod Outputs

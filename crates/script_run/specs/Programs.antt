@@ -2,7 +2,7 @@
 use Rattle.std.specs.Prelude.{Option}
 use Rattle.rp_io.specs.Causes.{Rose}
 use Rattle.command_run.specs.Runs.{ObjectsState}
-use Rattle.script_run.specs.declared.statuses.Status.{Status}
+use Rattle.program_status.specs.declared.statuses.Status.{Status}
 use Rattle.script_run.specs.Outputs.{Form}
 use Rattle.script_run.specs.Endings.{AnswersAs, AnswersWell, Devices, Ends}
 use Rattle.script_run.specs.Yards.{Leaves, LeavesAs}

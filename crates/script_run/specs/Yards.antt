@@ -10,8 +10,8 @@ use Rattle.command_run.specs.Stores.{StoreAnswers}
 use Rattle.command_run.specs.Fetches.{drive_line}
 use Rattle.command_run.specs.Outcomes.{IsCutDrive}
 use Rattle.command_run.specs.Runs.{ObjectsState, Run, run_of}
-use Rattle.script_run.specs.declared.statuses.Status.{Status}
-use Rattle.script_run.specs.declared.statuses.Status.TheVariants as status
+use Rattle.program_status.specs.declared.statuses.Status.{Status}
+use Rattle.program_status.specs.declared.statuses.Status.TheVariants as status
 use Rattle.script_run.specs.Outputs.{Form, other, run, check, demo, storm, audit, transcript_output}
 use Rattle.script_run.specs.Endings.{Devices, OfSource, RunEnds}
 

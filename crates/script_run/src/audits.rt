@@ -7,9 +7,9 @@ ghost use Rattle.script_run.specs.Outputs.{audit as audit_form, audit_output};
 ghost use Rattle.script_run.specs.Endings.{AuditEnds, Ends, IsFinal, IsReadEnd, devices, store_with};
 
 use crate::endings::{end_with, end_with_text};
-use crate::statuses::Status;
 use journal::Notice;
 use journal_check::{Audit, TRANSCRIPT_MOST, audit};
+use program_status::Status;
 use rp_base::NoMemory;
 use rp_io::{ReadFault, Sink, Source, read_front};
 use std::alloc::Global;

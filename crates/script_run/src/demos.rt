@@ -7,13 +7,14 @@ ghost use Rattle.script_run.specs.DemoRuns.{IsCounted, IsDemoCount};
 ghost use Rattle.script_run.specs.Endings.{Writes};
 
 use crate::endings::end_with;
-use crate::statuses::Status;
 use command_run::Objects;
 use image_maker::{SESSIONS_MOST, demo_script};
 use journal::Notice;
-use link_commands::{RunLog, Stop};
+use link_commands::Stop;
+use program_status::Status;
 use rp_base::NoMemory;
 use rp_io::Sink;
+use run_log::RunLog;
 use script_lang::{Command, ParseFault, parse};
 use std::alloc::Global;
 

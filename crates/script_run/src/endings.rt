@@ -1,14 +1,14 @@
 ghost use Rattle.std.specs.Prelude.{◌≢◌};
 ghost use Rattle.journal.specs.Notices.{report_text};
-ghost use Rattle.script_run.specs.declared.statuses.Status.TheVariants as ended;
+ghost use Rattle.program_status.specs.declared.statuses.Status.TheVariants as ended;
 ghost use Rattle.script_run.specs.Endings.{IsFinal, Writes};
 ghost use Rattle.script_run.specs.Delivery.{Tells};
 
-use crate::statuses::Status;
 use command_run::OutputFault;
 use journal::Notice;
-use link_commands::RunLog;
+use program_status::Status;
 use rp_io::{Sink, write_whole};
+use run_log::RunLog;
 use std::alloc::Global;
 
 /// Writes these lines, and ends so where all was written.

@@ -7,13 +7,12 @@ mod endings;
 mod program;
 mod reports;
 mod runs;
-mod statuses;
 mod storms;
 mod words;
 mod yards;
 
 pub use program::{run_program, run_script};
-pub use statuses::Status;
+pub use program_status::Status;
 pub use storms::run_storm;
 pub use words::Request;
 pub use yards::Yard;

@@ -7,7 +7,7 @@ ghost use Rattle.script_run.specs.Outputs.{form_of};
 ghost use Rattle.command_run.specs.Runs.{AsksNone, new_run};
 ghost use Rattle.command_run.specs.Lookups.{is_bare};
 ghost use Rattle.script_run.specs.Outputs.{run as run_form};
-ghost use Rattle.script_run.specs.Statuses.{status_of};
+ghost use Rattle.program_status.specs.Statuses.{status_of};
 ghost use Rattle.script_run.specs.Endings.{IsReadAnswer, IsReadEnd, NeedsNoStore, RunAnswersAs, RunEnds, SourceAsksNone, TextAsksNone, devices, reads_source, source_most};
 ghost use Rattle.script_run.specs.Yards.{RunLeaves, RunLeavesAs, TextLeaves};
 ghost use Rattle.script_run.specs.Programs.{FormEnds, ProgramEnds};
@@ -17,11 +17,11 @@ use crate::demos::demo;
 use crate::endings::{end_with, end_with_text};
 use crate::reports::check;
 use crate::runs::run_commands;
-use crate::statuses::Status;
 use crate::storms::run_plan;
 use crate::words::{Request, read_words};
 use crate::yards::Yard;
 use journal::Notice;
+use program_status::Status;
 use rp_base::SCRIPT_MOST;
 use rp_io::{FirmwareStore, ReadFault, Sink, Source, read_front};
 use script_lang::{ParseFault, Script, parse};
@@ -47,7 +47,7 @@ use storm_run::FreeGate;
 /// large, or one that doesn't load, or `audit` a line that breaks a rule; 2 for other words; 3 where the
 /// source failed; 4 where the sink failed; 5 where memory ran out; 6 where the text is no script, or a
 /// transcript that is too long; 7 where the run was to take one step more than it may; and 8 where the
-/// store failed. With `run` it is 0 or 3 to 8, with `check` 0, 1, 4, 5 or 8, with `demo` 0, 4, 5 or 7,
+/// store failed. With `run` it is 0 or 3 to 8, with `check` 0, 1, 4, 5 or 8, with `demo` 0, 4 or 5,
 /// with `storm` 0, 4 or 5, with `audit` 0, 1 or 3 to 6, and for other words 2, 4 or 5.
 pub fn run_program<R: Threads + Wait + Sync, S: Source, F: FirmwareStore, K: Sink>(
     rt: &R,

@@ -5,9 +5,9 @@ ghost use Rattle.script_run.specs.Endings.{Ends, IsFinal, IsReportOutput, device
 ghost use Rattle.script_run.specs.ImageReports.{made_output};
 
 use crate::endings::{end_with, end_with_text};
-use crate::statuses::Status;
 use image_report::{ImageReport, refuse, report_image};
 use journal::Notice;
+use program_status::Status;
 use rp_base::{Name, NoMemory};
 use rp_io::{FirmwareStore, NoImage, Sink, StoreFault, look_up};
 use std::alloc::Global;

@@ -6,11 +6,12 @@ ghost use Rattle.script_run.specs.Outputs.{stop_output, store_fault_output};
 ghost use Rattle.script_run.specs.Yards.{RunLeaves};
 ghost use Rattle.script_run.specs.Delivery.{EndsRun, RunWrites};
 
-use crate::statuses::Status;
 use command_run::{CommandFault, Objects, OutputFault, run_command};
 use journal::Notice;
-use link_commands::{RunLog, Stop};
+use link_commands::Stop;
+use program_status::Status;
 use rp_io::{FirmwareStore, Sink, write_whole};
+use run_log::RunLog;
 use script_lang::Command;
 use std::alloc::Global;
 

@@ -1,10 +1,10 @@
 ghost use Rattle.storm_run.specs.Storms.{IsPlan};
 ghost use Rattle.script_run.specs.Outputs.{storm_output};
-ghost use Rattle.script_run.specs.Statuses.{status_of};
+ghost use Rattle.program_status.specs.Statuses.{status_of};
 ghost use Rattle.script_run.specs.Endings.{StormAnswersAs, Writes};
 
 use crate::endings::end_with_text;
-use crate::statuses::Status;
+use program_status::Status;
 use rp_base::NoMemory;
 use rp_io::Sink;
 use std::alloc::Global;

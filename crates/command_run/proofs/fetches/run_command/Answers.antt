@@ -19,7 +19,7 @@ use Rattle.command_run.specs.declared.faults.CommandFault.{CommandFault}
 use Rattle.command_run.specs.declared.faults.OutputFault.{OutputFault}
 use Rattle.command_run.specs.declared.faults.OutputFault.TheVariants as output_fault
 use Rattle.link_commands.specs.declared.stops.Stop.{Stop}
-use Rattle.link_commands.specs.Logs.{LogState}
+use Rattle.run_log.specs.Logs.{LogState}
 use Rattle.command_run.specs.Outcomes.{CutsRun, HandsRunEffect, HasRunEffect}
 use Rattle.command_run.specs.Faults.{output_command_fault}
 use Rattle.command_run.specs.Fetches.{DidTold, EndsCut, IfSinkFailed, KeepsDrive, KeepsDriven, RunsTold, drive_line}

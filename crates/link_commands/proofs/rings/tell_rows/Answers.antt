@@ -1,6 +1,6 @@
 use Rattle.std.proofs.Common.{◌≡◌, ◌-◌, ◌*◌, ℕ, List, ◌++◌, drop, take, sym, ap, ◌∙◌, append-nil, arith}
 use Rattle.journal.specs.Lines.{transcript}
-use Rattle.link_commands.specs.Logs.{LogState}
+use Rattle.run_log.specs.Logs.{LogState}
 use Rattle.link_commands.specs.RingDumps.{dump_rows, row_count}
 use Rattle.link_commands.proofs.RingRows.{rows_none, row_bytes, row_told}
 use Rattle.link_commands.proofs.rings.tell_rows.Goals as goal

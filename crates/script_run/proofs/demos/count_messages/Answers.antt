@@ -1,6 +1,6 @@
 use Rattle.std.proofs.Common.{◌+◌, drop, sym, ap, subst, ◌∙◌}
 use Rattle.script_run.specs.declared.demos.AcceptedCounts.{AcceptedCounts}
-use Rattle.link_commands.specs.Logs.{LogState}
+use Rattle.run_log.specs.Logs.{LogState}
 use Rattle.command_run.specs.Runs.{ObjectsState, new_run}
 use Rattle.script_run.specs.Demos.{accepted_sum}
 use Rattle.command_run.proofs.RunSteps.{left_at, runnable_first}

@@ -1,5 +1,5 @@
 use Rattle.std.proofs.Common.{ap, ◌∙◌}
-use Rattle.script_run.specs.Statuses.{status_of}
+use Rattle.program_status.specs.Statuses.{status_of}
 use Rattle.script_run.proofs.Ends.{status_back}
 use Rattle.script_run.proofs.program.run_script.Goals as goal
 

@@ -4,9 +4,9 @@ use Rattle.std.proofs.lemmas.Result.{err_from_is_err_and}
 use Rattle.rp_io.specs.Causes.{Rose}
 use Rattle.command_run.specs.declared.faults.CommandFault.{CommandFault}
 use Rattle.command_run.specs.declared.faults.OutputFault.{OutputFault}
-use Rattle.script_run.specs.declared.statuses.Status.{Status}
+use Rattle.program_status.specs.declared.statuses.Status.{Status}
 use Rattle.command_run.specs.Stores.{StoreAnswers}
-use Rattle.link_commands.specs.Logs.{KeepsLess, LogState}
+use Rattle.run_log.specs.Logs.{KeepsLess, LogState}
 use Rattle.command_run.specs.Fetches.{DidTold, RunsTold}
 use Rattle.script_run.specs.Outputs.{end_output, store_fault_output}
 use Rattle.script_run.specs.Delivery.{EndsRun, RunWrites}

@@ -1,6 +1,6 @@
 use Rattle.std.proofs.Common.{◌≡◌, drop}
 use Rattle.script_lang.specs.Runnable.{AreRunnable}
-use Rattle.link_commands.specs.Logs.{KeepsLess}
+use Rattle.run_log.specs.Logs.{KeepsLess}
 use Rattle.command_run.specs.Runs.{AsksNone, new_run, run_from}
 use Rattle.script_run.proofs.SoFar.{SoFar}
 use Rattle.script_run.proofs.runs.tell_commands.Given as goal

@@ -5,7 +5,7 @@ use Rattle.rp_base.specs.declared.limits.TheConstants.{STEPS_MOST}
 use Rattle.journal.specs.declared.events.Event.TheVariants as event
 use Rattle.crash_recover.specs.Cores.{CoreState}
 use Rattle.crash_recover.specs.Drives.{drive_step, is_idle}
-use Rattle.link_commands.specs.Logs.{Keeps, LogState}
+use Rattle.run_log.specs.Logs.{Keeps, LogState}
 use Rattle.command_run.specs.Outcomes.{DrivesOn}
 use Rattle.command_run.specs.CoreDrives.{is_crashed, is_over, step_events}
 use Rattle.command_run.proofs.Driving.{crash_over, drive_first, drive_goes_on, rest_over, steps_go, steps_idle}

@@ -1,5 +1,5 @@
 use Rattle.std.proofs.Common.{◌≡◌}
-use Rattle.link_commands.specs.Logs.{KeepsLess}
+use Rattle.run_log.specs.Logs.{KeepsLess}
 use Rattle.command_run.specs.Outcomes.{DrivesHanding}
 use Rattle.command_run.proofs.cores.NamedCore.drive_pieces.Given as goal
 

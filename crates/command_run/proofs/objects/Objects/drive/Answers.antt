@@ -11,7 +11,7 @@ use Rattle.command_run.specs.declared.faults.OutputFault.{OutputFault}
 use Rattle.command_run.specs.declared.faults.OutputFault.TheVariants as output_fault
 use Rattle.command_run.specs.CoreDrives.{drive_effect}
 use Rattle.command_run.specs.Fetches.{EndsCut, IfSinkFailed, KeepsDriven, drive_line}
-use Rattle.link_commands.specs.Logs.{KeepsLess}
+use Rattle.run_log.specs.Logs.{KeepsLess}
 use Rattle.command_run.specs.Outcomes.{CutsCore, CutsRun, HandsCoreEffect, HandsRunEffect, KeepsWhole}
 use Rattle.command_run.specs.NamedCores.{NamedCoreState}
 use Rattle.command_run.specs.Runs.{ObjectsState, RunEffect, RunState, core_under, core_place, line_effect, name_effect, place_of}

@@ -1,6 +1,0 @@
-use Rattle.split_ring.specs.Callers.{IsCallerOf}
-use Rattle.script_threads.proofs.goes_on.send_one.Given as goal
-
--- the caller is in no call
-abbrev pub invariant-loop : goal.invariant-loop
-invariant-loop l = IsCallerOf l.link l.caller

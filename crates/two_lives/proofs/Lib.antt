@@ -1,4 +1,0 @@
-pub mod Crosses
-pub mod Sends
-pub mod Stops
-pub mod Takes
