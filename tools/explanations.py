@@ -8,6 +8,8 @@ from faults import TOP
 
 # The pages whose tables explain lines and words, in the order in which they are asked.
 PAGES = ("TRANSCRIPT.md", "CHART.md", "SCRIPTS.md", "GLOSSARY.md")
+# A word of a list of words.
+ITEM = re.compile(r"- \*\*(.+?)\*\*: (.*)")
 CAPITALS = re.compile(r"[A-Z]+(?:\.[A-Z]+)?")
 CODE = re.compile(r"`([^`]+)`")
 # A line that has a fault's number, in a transcript or a report.
@@ -32,10 +34,12 @@ def plain(text):
 
 @lru_cache
 def rows(page):
-    """The rows of the tables of a page, none where it isn't there."""
+    """The rows of the tables of a page, and its lists of words; none where it isn't there."""
     path, titles, found = TOP / "docs" / page, [], []
     lines = path.read_text().splitlines() if path.exists() else []
     for at, line in enumerate(lines):
+        if item := ITEM.fullmatch(line):
+            found.append(Row(["", "What it is"], [item[1], item[2]]))
         if not line.startswith("|") or line.startswith("|---"):
             continue
         cells = [it.strip().replace("\\|", "|") for it in re.split(r"(?<!\\)\|", line[1:-1])]
