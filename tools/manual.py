@@ -13,7 +13,9 @@ TOP = Path(__file__).resolve().parent.parent
 DATE = "December 2, 2026"
 # The end of each page.
 HISTORY = f".Sh HISTORY\nThis page is that of version {(TOP / 'VERSION').read_text().strip()}."
-LINK = re.compile(r"\[([^\]]*)\]\([^)]*\)")
+LINK = re.compile(r"\[([^\]]*)\]\(([^)]*)\)")
+# The manual pages that pages of docs/ make.
+MANUALS = {"SCRIPTS.md": "`rproc-script`(5)", "TRANSCRIPT.md": "`rproc-transcript`(5)", "FAULTS.md": "`rproc-faults`(7)"}
 # A sentence ends here, where the next begins with a capital letter or a word in code.
 SENTENCE = re.compile(r"(?<=[A-Za-z0-9)`'][.:]) (?=[A-Z`[])")
 COMMAND = """.Dd {date}
@@ -94,8 +96,8 @@ L 0 took 0 from 1024 dropped 7 6869
 
 
 def plain(text):
-    """Text of a page as that of a manual: code in bold, links by their words."""
-    text = LINK.sub(r"\1", text).replace("\\|", "|").replace("\\", "\\e")
+    """Text of a page as that of a manual: code in bold, links by their words or the manual page that they lead to."""
+    text = LINK.sub(lambda it: MANUALS.get(it[2].partition("#")[0], it[1]), text).replace("\\|", "|").replace("\\", "\\e")
     pieces = text.split("`")
     return "".join(f"\\fB{it}\\fR" if at % 2 else it for at, it in enumerate(pieces))
 
@@ -186,6 +188,12 @@ def answer_text(entry):
     by = f" (answered by {entry.by})" if entry.by else ""
     meaning = entry.meaning()
     return f"{meaning[:1].upper()}{meaning[1:]}{by}. {entry.do}".strip()
+
+
+def by_hand():
+    """The manual pages that no page of docs/ makes."""
+    made = ("rproc.1", "rproc-script.5", "rproc-transcript.5", "rproc-faults.7")
+    return sorted(it.name for it in (TOP / "man").iterdir() if it.name not in made)
 
 
 def written(name):

@@ -21,6 +21,7 @@ WORD = re.compile(r'"([^"]+)"|\((\w+)[^)]*\)')
 # A line of a notice or of a report, in a definition.
 NOTICE = re.compile(r"(?:notice_words [^=]*=|caller_line [^=]*=|line_of \()(.*?)∷ \[\]", re.S)
 NOTICE_WORD = re.compile(r'codes "([^"]+)"|\b(Number|Name|Digits|Side|Lane)\b')
+STATUS = re.compile(r"^status_number \S+ = (\d+)$", re.M)
 FAULT = re.compile(r"^(?:\w*fault_number|number_of) .* = (?:Some )?(\d+)$", re.M)
 
 
@@ -49,9 +50,9 @@ def lines_of_notices():
 
 def numbers():
     """The statuses and the numbers of faults."""
-    yield from (f"status {it}" for it in re.findall(r"^status_number .* = (\d+)$", text("script_run/specs/Statuses.antt"), re.M))
-    found = {it for path in CRATES.glob("*/specs/**/*.antt") for it in FAULT.findall(path.read_text())}
-    yield from (f"fault {it}" for it in sorted(found, key=int))
+    definitions = [path.read_text() for path in CRATES.glob("*/specs/**/*.antt")]
+    for kind, pattern in (("status", STATUS), ("fault", FAULT)):
+        yield from (f"{kind} {it}" for it in sorted({it for text in definitions for it in pattern.findall(text)}, key=int))
 
 
 def met():
