@@ -6,13 +6,18 @@ import re
 import textwrap
 from pathlib import Path
 
+import faults
 from highlight import commands, recipe_lines
 
 TOP = Path(__file__).resolve().parent.parent
-DATE = "November 28, 2026"
-LINK = re.compile(r"\[([^\]]*)\]\([^)]*\)")
+DATE = "December 2, 2026"
+# The end of each page.
+HISTORY = f".Sh HISTORY\nThis page is that of version {(TOP / 'VERSION').read_text().strip()}."
+LINK = re.compile(r"\[([^\]]*)\]\(([^)]*)\)")
+# The manual pages that pages of docs/ make.
+MANUALS = {"SCRIPTS.md": "`rproc-script`(5)", "TRANSCRIPT.md": "`rproc-transcript`(5)", "FAULTS.md": "`rproc-faults`(7)"}
 # A sentence ends here, where the next begins with a capital letter or a word in code.
-SENTENCE = re.compile(r"(?<=[a-z0-9)`'][.:]) (?=[A-Z`])")
+SENTENCE = re.compile(r"(?<=[A-Za-z0-9)`'][.:]) (?=[A-Z`[])")
 COMMAND = """.Dd {date}
 .Dt RPROC 1
 .Os
@@ -64,7 +69,7 @@ rules of transcripts.
 the folder of images, where the program is started
 .El
 .Sh EXIT STATUS
-.Bl -tag -width 9
+.Bl -tag -width Ds
 {statuses}
 .El
 .Sh EXAMPLES
@@ -80,14 +85,19 @@ L 1 sent 0
 L 0 took 0 from 1024 dropped 7 6869
 .Ed
 .Sh SEE ALSO
+.Xr rproc-chart 1 ,
+.Xr rproc-explain 1 ,
+.Xr rproc-golden 1 ,
 .Xr rproc-script 5 ,
-.Xr rproc-transcript 5
+.Xr rproc-transcript 5 ,
+.Xr rproc-faults 7
+{history}
 """
 
 
 def plain(text):
-    """Text of a page as that of a manual: code in bold, links by their words."""
-    text = LINK.sub(r"\1", text).replace("\\|", "|").replace("\\", "\\e")
+    """Text of a page as that of a manual: code in bold, links by their words or the manual page that they lead to."""
+    text = LINK.sub(lambda it: MANUALS.get(it[2].partition("#")[0], it[1]), text).replace("\\|", "|").replace("\\", "\\e")
     pieces = text.split("`")
     return "".join(f"\\fB{it}\\fR" if at % 2 else it for at, it in enumerate(pieces))
 
@@ -135,20 +145,61 @@ def sections(page):
     return list(zip(found[1::2], found[2::2]))
 
 
+def beginning(name, section, about):
+    return f".Dd {DATE}\n.Dt {name.upper()} {section}\n.Os\n.Sh NAME\n.Nm {name}\n.Nd {about}\n.Sh DESCRIPTION"
+
+
 def file_format(page, name, about, other):
     """The manual page of a format, from a page of docs/."""
     (_, head), *rest = sections(page)
-    made = [f".Dd {DATE}\n.Dt {name.upper()} 5\n.Os\n.Sh NAME\n.Nm {name}\n.Nd {about}\n.Sh DESCRIPTION", parts(head)]
+    made = [beginning(name, 5, about), parts(head)]
     made += [f".Ss {title}\n{parts(body)}" for title, body in rest]
-    made.append(f".Sh SEE ALSO\n.Xr rproc 1 ,\n.Xr {other} 5")
+    made.append(f".Sh SEE ALSO\n.Xr rproc 1 ,\n.Xr {other} 5 ,\n.Xr rproc-faults 7\n{HISTORY}")
     return "\n".join(made).encode() + b"\n"
 
 
 def command():
-    """The manual page of the program; its statuses are those of docs/FAULTS.md."""
-    rows = re.findall(r"^\| (\d) \|[^|]*\| (.*?) \|", dict(sections("FAULTS.md"))["How the program ends"], flags=re.M)
-    statuses = "\n".join(f".It {number}\n{sentences(text)}" for number, text in rows)
-    return COMMAND.format(date=DATE, statuses=statuses).encode()
+    """The manual page of the program; its statuses are those of share/faults.txt."""
+    statuses = "\n".join(f".It {it.key[1]}\n{sentences(it.means)}" for it in faults.entries() if it.key[0] == "status")
+    return COMMAND.format(date=DATE, history=HISTORY, statuses=statuses).encode()
+
+
+def answers():
+    """The manual page of faults, statuses and refusals, from share/faults.txt."""
+    (head, *rest), made = faults.read(), []
+    made.append(beginning("rproc-faults", 7, "faults, statuses and refusals of rproc"))
+    made.append("\n".join(sentences(it) for it in head.texts))
+    for section in rest:
+        if section.entries:
+            items = [f".It {plain(answer_head(it))}\n{sentences(answer_text(it))}" for it in section.entries]
+            made += [f".Ss {plain(section.title)}", *(sentences(it) for it in section.texts), ".Bl -tag -width Ds", *items, ".El"]
+    made.append(".Sh SEE ALSO\n.Xr rproc 1 ,\n.Xr rproc-explain 1 ,\n.Xr rproc-script 5 ,\n.Xr rproc-transcript 5\n" + HISTORY)
+    return "\n".join(made).encode() + b"\n"
+
+
+def answer_head(entry):
+    """What an answer is found by: its lines, or its number; a status and a cause by their words."""
+    if entry.key[0] in ("status", "cause"):
+        return f"`{' '.join(entry.key)}`" if entry.key[0] == "status" else f"`{entry.key[1]}`"
+    return faults.shown(entry.lines) or entry.key[1]
+
+
+def answer_text(entry):
+    by = f" (answered by {entry.by})" if entry.by else ""
+    meaning = entry.meaning()
+    return f"{meaning[:1].upper()}{meaning[1:]}{by}. {entry.do}".strip()
+
+
+def by_hand():
+    """The manual pages that no page of docs/ makes."""
+    made = ("rproc.1", "rproc-script.5", "rproc-transcript.5", "rproc-faults.7")
+    return sorted(it.name for it in (TOP / "man").iterdir() if it.name not in made)
+
+
+def written(name):
+    """A manual page that is written by hand, with the version and the date of the others."""
+    text = (TOP / "man" / name).read_text().partition(".Sh HISTORY")[0]
+    return f"{re.sub(r'^[.]Dd .*$', f'.Dd {DATE}', text, flags=re.M)}{HISTORY}\n".encode()
 
 
 def script():
