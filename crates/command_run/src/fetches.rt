@@ -120,7 +120,7 @@ pub(crate) fn script_image<'a>(images: &'a [ScriptImage], name: &[u8]) -> FoundI
 }
 
 /// The bytes of the first image of this name.
-fn image_bytes<'a>(images: &'a [ScriptImage], name: &[u8]) -> Option<&'a [u8]>
+pub(crate) fn image_bytes<'a>(images: &'a [ScriptImage], name: &[u8]) -> Option<&'a [u8]>
     ensures { option_copied result ≡ image_bytes images.now name.now }
 {
     let image = images.iter().find(|image| image.name.bytes() == name)?;

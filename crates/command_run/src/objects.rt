@@ -12,11 +12,13 @@ ghost use Rattle.link_commands.specs.declared.acts.NamedAct.TheVariants as under
 ghost use Rattle.command_run.specs.Outcomes.{CutsRun, HandsRunEffect, HasRunEffect};
 ghost use Rattle.command_run.specs.Runs.{core_made_effect, core_place, is_full, regions_of, core_under, find_core, act_asks, core_act, effect_of, has_image, image_effect, image_place, line_effect, made_effect, name_effect, new_run, place_of, quiet_effect, unnamed_effect};
 ghost use Rattle.command_run.specs.Lookups.{bench_under, core_state_under, find_link, is_bare, link_bench_under, without_core, without_link};
+ghost use Rattle.command_run.specs.CoreLives.{image_bytes};
 ghost use Rattle.command_run.specs.Faults.{store_command_fault};
 ghost use Rattle.command_run.specs.Fetches.{EndsCut, IfSinkFailed, KeepsDriven, RunsTold};
 
 use crate::cores::{NamedCore, is_on};
 use crate::faults::OutputFault;
+use crate::fetches::image_bytes;
 use channel_bus::Side;
 use crash_recover::{Bench, Core};
 use journal::Event;
@@ -102,6 +104,13 @@ impl Objects {
             Some(named) => Some(&named.bench),
             None => find_core(self.cores.as_slice(), name)?.core.link(),
         }
+    }
+
+    /// The bytes of the image that a recipe made, or a dump kept, under this name.
+    pub fn image(&self, name: &[u8]) -> Option<&[u8]>
+        ensures { option_copied result ≡ image_bytes self.now.images name.now }
+    {
+        image_bytes(self.images.as_slice(), name)
     }
 
     /// Takes the link of this name out.

@@ -1,5 +1,6 @@
 ghost use Rattle.std.specs.Prelude.{◌≡◌, IfOk, option_map};
 ghost use Rattle.std.specs.Option.{option_copied};
+ghost use Rattle.command_run.specs.CoreLives.{image_bytes};
 ghost use Rattle.command_run.specs.Lookups.{bench_under, core_state_under, is_bare, link_bench_under, without_core, without_link};
 ghost use Rattle.command_run.specs.Runs.{core_under, new_run};
 
@@ -9,7 +10,7 @@ use rp_base::NoMemory;
 use std::alloc::Global;
 use std::marker::Model;
 
-/// The links and cores of a script, by name, with their states. A run fills it, and whoever had it
+/// The links, cores and images of a script, by name, with their states. A run fills it, and whoever had it
 /// filled can go on with them.
 #[derive(Drop)]
 pub struct Yard {
@@ -54,6 +55,14 @@ impl Yard {
     {
         let named = self.objects.core_under(name.as_bytes())?;
         Some(&named.core)
+    }
+
+    /// The bytes of the image that the script made by a recipe, or kept by a dump, under this name. There
+    /// is none exactly where it made no image of the name.
+    pub fn image(&self, name: &str) -> Option<&[u8]>
+        ensures { option_copied result ≡ image_bytes self.now.images name.now }
+    {
+        self.objects.image(name.as_bytes())
     }
 
     /// Takes the bench of the link of this name out of the yard, to go on with it. A core's link stays
