@@ -12,7 +12,7 @@ struct table {
 
 extern char trace_text[64];
 
-__attribute__((section(".entry"), used)) const struct record worker[1] = { HALT() };
+__attribute__((section(".entry"), used)) const struct record worker[1] = { { 0, 0, 0, 0, 0 } };
 
 __attribute__((section(".trace"), used)) char trace_text[64] = "blink: clock 48 MHz\nblink: ready\n";
 

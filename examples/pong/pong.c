@@ -17,15 +17,15 @@ static const char greeting[16] = "pong: listening\n";
 extern char trace_text[64];
 __attribute__((section(".trace"), used)) char trace_text[64];
 
-__attribute__((section(".entry"), used)) const struct record worker[] = {
+WORKER(worker,
 	COPY(sizeof(greeting), trace_text, greeting),
 	BIND(ADDRESS),
 	ANNOUNCE(ADDRESS, 0, channel),
 	TAKE(),
 	SEND(sizeof(answer), ADDRESS, LAST_SOURCE, answer),
 	LOOP(100, 3),
-	HALT(),
-};
+	HALT()
+);
 
 __attribute__((section(".resource_table"), used)) const struct table resources = {
 	.ver = 1,
