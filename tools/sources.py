@@ -1,11 +1,11 @@
-"""The sources of a program, and whether the built program is theirs. Used by tools/launch and tools/build."""
+"""The sources of a program, and whether the built program is theirs. Used by tools/launch, tools/build and tools/recompile."""
 import hashlib
 import os
 import time
 
 TOP = os.path.dirname(os.path.dirname(os.path.abspath(__file__)))
-# The crates of the programs.
-PROGRAMS = ("rproc", "rproc_chart")
+# The programs, by their crates, and the name by which each is run.
+PROGRAMS = {"rproc": "rproc", "rproc_chart": "rproc-chart"}
 # What a check of a crate reads of it.
 PARTS = ("src", "specs", "proofs")
 
@@ -53,7 +53,9 @@ class Sources:
             for path in self.files(name):
                 if os.path.isfile(path):
                     with open(path, "rb") as file:
-                        total.update(repr((os.path.relpath(path, TOP), file.read())).encode())
+                        content = file.read()
+                    total.update(repr((os.path.relpath(path, TOP), len(content))).encode())
+                    total.update(content)
         return total.hexdigest()
 
     def changed_since(self, moment):
