@@ -6,7 +6,7 @@ use Rattle.rp_io.specs.Contents.{AppendsFront}
 use Rattle.word_kinds.specs.Spellings.{is_name}
 use Rattle.command_run.specs.CoreLives.{image_bytes}
 use Rattle.command_run.specs.Runs.{ObjectsState}
-use Rattle.script_run.specs.Statuses.{status_of}
+use Rattle.program_status.specs.Statuses.{status_of}
 use Rattle.script_run.specs.Outputs.{run}
 use Rattle.script_run.specs.Endings.{Devices}
 use Rattle.script_run.specs.Programs.{ProgramEnds}

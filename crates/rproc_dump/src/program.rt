@@ -1,5 +1,5 @@
 ghost use Rattle.std.specs.Prelude.{◌≡◌, map, true};
-ghost use Rattle.script_run.specs.Statuses.{status_of};
+ghost use Rattle.program_status.specs.Statuses.{status_of};
 ghost use Rattle.script_run.specs.Endings.{devices};
 ghost use Rattle.script_run.specs.Outputs.{run as run_form};
 ghost use Rattle.script_run.specs.Programs.{ProgramEnds};
