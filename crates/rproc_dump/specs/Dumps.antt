@@ -1,5 +1,5 @@
 -- What rproc-dump is asked for, what it writes, and how it ends (own).
-use Rattle.std.specs.Prelude.{◌≡◌, ℕ, suc, ◌∷◌, List, [], Bool, true, false, Option, Some, None, bytes_eq, codes, if◌then◌else◌}
+use Rattle.std.specs.Prelude.{◌≡◌, ℕ, zero, suc, ◌∷◌, List, [], Bool, true, false, Option, Some, None, bytes_eq, codes, if◌then◌else◌}
 use Rattle.std.specs.Io.KnownBytes.{Appends}
 use Rattle.rp_io.specs.Causes.{Rose}
 use Rattle.rp_io.specs.Contents.{AppendsFront}
@@ -57,17 +57,17 @@ IsImageEnding ended image old new before now = ⊥
 
 -- how it ends after a run that ended with this number: after another one than 0 nothing is written
 abbrev pub IsEnding : ℕ → Ending → Option (List ℕ) → Option (List ℕ) → Option (List ℕ) → ℕ → ℕ → Type 0
-IsEnding 0 ended image old new before now = IsImageEnding ended image old new before now
+IsEnding zero ended image old new before now = IsImageEnding ended image old new before now
 IsEnding (suc more) ended image old new before now = (ended ≡ ending.NotRun (suc more)) × (new ≡ old) × (now ≡ before)
 
 -- a script is run, its transcript written, and then the image that the run left under the name
-pub record ImageEnds (ended : Ending) (wish : DumpWish) (before now : Devices) (yard left : ObjectsState) (old new : Option (List ℕ)) (was then : ℕ) : Type 0 where
+pub record ImageEnds (ended : Ending) (wish : DumpWish) (before now : Devices) (yard left : ObjectsState) (old new : Option (List ℕ)) (was after : ℕ) : Type 0 where
   pub status : ℕ
   pub run_ends : ProgramEnds (status_of status) run (heard wish.is_quiet before) (heard wish.is_quiet now) yard left
   pub quiet : wish.is_quiet ≡ true → (now.written ≡ before.written) × (now.sink_faults ≡ before.sink_faults)
-  pub image : IsEnding status ended (image_bytes left.images wish.name) old new was then
+  pub image : IsEnding status ended (image_bytes left.images wish.name) old new was after
 
 -- what the words ask for is done; where they ask for nothing, nothing is
 abbrev pub DumpEnds : Ending → Option DumpWish → Devices → Devices → ObjectsState → ObjectsState → Option (List ℕ) → Option (List ℕ) → ℕ → ℕ → Type 0
-DumpEnds ended None before now yard left old new was then = (ended ≡ ending.Usage) × (now ≡ before) × (left ≡ yard) × (new ≡ old) × (then ≡ was)
-DumpEnds ended (Some wish) before now yard left old new was then = ImageEnds ended wish before now yard left old new was then
+DumpEnds ended None before now yard left old new was after = (ended ≡ ending.Usage) × (now ≡ before) × (left ≡ yard) × (new ≡ old) × (after ≡ was)
+DumpEnds ended (Some wish) before now yard left old new was after = ImageEnds ended wish before now yard left old new was after
