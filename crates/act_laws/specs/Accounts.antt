@@ -29,7 +29,7 @@ with_deeds end is_live account deeds = record {
   late = if is_live then [] else account.late ++ deeds.takes end;
 }
 
--- a way, and behind it the close of this incarnation
+-- a way, and after it the close of this incarnation
 abbrev pub way_to_close : Way EndState → ℕ → Way EndState
 way_to_close before inc = way_on before (Close inc ∷ [])
 

@@ -58,7 +58,7 @@ whole_deeds bench steps caller wanted =
     let walk = call_walk bench steps caller wanted in
     walk_deeds caller walk (call_moves (walk.steps - steps) caller (link_in bench).era.inc wanted)
 
--- steps of the call that a caller is in, from its first step or from where it stands
+-- steps of the call that a caller is in, from its first step or from where it is
 abbrev pub advance_deeds : BenchState → ℕ → ℕ → ℕ → Option BegunCall → Deeds
 advance_deeds bench more steps caller (Some call) =
     let walk = advance_steps bench more steps caller (Some call) in

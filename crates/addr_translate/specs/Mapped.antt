@@ -1,4 +1,4 @@
--- The mapped blocks of a core, and where their bytes stand in its memory (own).
+-- The mapped blocks of a core, and where their bytes are in its memory (own).
 use Rattle.std.specs.Prelude.{ℕ, ◌+◌, ◌-◌, List, [], ◌∷◌, ◌++◌, map, filter, not, Option, Some, None, if◌then◌else◌}
 use Rattle.memory_pool.specs.Ranges.{lies_in}
 use Rattle.memory_pool.specs.Regions.{is_pool}
@@ -8,7 +8,7 @@ use Rattle.memory_pool.specs.declared.blocks.Use.TheVariants as usage
 use Rattle.memory_pool.specs.declared.regions.Region.{Region}
 use Rattle.addr_translate.specs.declared.mapped.Mapped.{Mapped}
 
--- the place in the core's memory of a range of device addresses: the regions stand one after the other there, from a base on (own)
+-- the place in the core's memory of a range of device addresses: the regions are one after the other there, from a base on (own)
 abbrev pub memory_place : ℕ → List Region → ℕ → ℕ → Option ℕ
 memory_place base [] da len = None
 memory_place base (region ∷ more) da len =
@@ -19,7 +19,7 @@ abbrev pub mapped_region : List Region → Region → Mapped
 mapped_region regions region =
     record { da = region.da; pa = region.pa; len = region.len; at = memory_place 0 regions region.da region.len }
 
--- where the bytes of a block stand, of which a window has none (own)
+-- where the bytes of a block are, of which a window has none (own)
 abbrev pub place_of_use : List Region → Use → ℕ → ℕ → Option ℕ
 place_of_use regions (usage.Window index) da len = None
 place_of_use regions _ da len = memory_place 0 regions da len

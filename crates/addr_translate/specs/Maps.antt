@@ -1,4 +1,4 @@
--- A map of device addresses, and where a range of them stands (own).
+-- A map of device addresses, and where a range of them is (own).
 use Rattle.std.specs.Prelude.{◌≡◌, ℕ, ◌+◌, ◌-◌, Bool, List, find, Option, option_and_then, option_map}
 use Rattle.std.specs.List.Sorted.{IsPermutation}
 use Rattle.memory_pool.specs.Ranges.{lies_within}
@@ -23,23 +23,23 @@ pub record IsMapOf (regions : List Region) (placed : List Block) (map : Mapping)
 abbrev pub holds : ℕ → ℕ → Mapped → Bool
 holds da len block = lies_within da len block.da block.len
 
--- where a range stands in the block that holds it (own)
+-- where a range is in the block that holds it (own)
 abbrev pub place_in : ℕ → Mapped → Place
 place_in da block =
     record { pa = block.pa + (da - block.da); at = option_map (λ at. at + (da - block.da)) block.at }
 
--- where a range of device addresses stands among blocks: in the one that holds it whole, if one does (own)
+-- where a range of device addresses is among blocks: in the one that holds it whole, if one does (own)
 abbrev pub place_among : List Mapped → ℕ → ℕ → Option Place
 place_among blocks da len = option_map (place_in da) (find (holds da len) blocks)
 
--- where a range of device addresses stands by a map (own)
+-- where a range of device addresses is by a map (own)
 abbrev pub translate : Mapping → ℕ → ℕ → Option Place
 translate map da len = place_among map.blocks da len
 
--- where it stands in the core's memory, if one block of memory holds it whole; a window has no memory (own)
+-- where it is in the core's memory, if one block of memory holds it whole; a window has no memory (own)
 abbrev pub place_at : Mapping → ℕ → ℕ → Option ℕ
 place_at map da len = option_and_then (λ (place : Place). place.at) (translate map da len)
 
--- where a range of device addresses stands by regions and what was placed among them (own)
+-- where a range of device addresses is by regions and what was placed among them (own)
 abbrev pub translation : List Region → List Block → ℕ → ℕ → Option Place
 translation regions placed da len = place_among (mapped_blocks regions placed) da len

@@ -19,7 +19,7 @@ pub fn one_block()
         → holds da len (slice_index_or mapped i d) ≡ true → holds da len (slice_index_or mapped j d) ≡ true → i ≡ j }
 {}
 
-/// A map says of a range of device addresses where it stands by the regions and by what was placed
+/// A map says of a range of device addresses where it is by the regions and by what was placed
 /// among them.
 pub fn any_order()
     ensures { (regions : List Region) (placed : List Block) (map : Mapping) → SoundRegions regions → SoundPlacement regions placed

@@ -1,4 +1,4 @@
-// Where device addresses stand: the map of a core's mapped blocks, and the bytes of its memory.
+// Where device addresses are: the map of a core's mapped blocks, and the bytes of its memory.
 #![tactic(auto)]
 
 pub mod laws;

@@ -15,11 +15,11 @@ pub(crate) struct Mapped {
     pub(crate) pa: Pa,
     /// How many bytes it has.
     pub(crate) len: u32,
-    /// Where its bytes stand in the core's memory. A window has none.
+    /// Where its bytes are in the core's memory. A window has none.
     pub(crate) at: Option<u32>,
 }
 
-/// Where a range of device addresses stands.
+/// Where a range of device addresses is.
 #[derive(Clone, Copy)]
 pub struct Place {
     /// Its physical address.
@@ -66,7 +66,7 @@ impl Mapped {
         self.da <= da && u64::from(da) + u64::from(len) <= u64::from(self.da) + u64::from(self.len)
     }
 
-    /// Where a range stands that it holds.
+    /// Where a range is that it holds.
     pub(crate) fn place_of(&self, da: Da) -> Place
         requires from { self.now.da ≤ da }
         requires physical { self.now.pa + (da - self.now.da) < 2 ^ 32 }
@@ -81,7 +81,7 @@ impl Mapped {
     }
 }
 
-/// The place in the core's memory of a range of device addresses, where the regions stand one after
+/// The place in the core's memory of a range of device addresses, where the regions are one after
 /// the other.
 fn memory_place(regions: &[Region], da: Da, len: u32) -> Option<u32>
     requires { SoundRegions regions.now }

@@ -35,7 +35,7 @@ impl Map {
     /// The map of the regions that are always mapped, and of blocks and windows that [`place`] placed
     /// among the regions, or of none. What it says of a range is [`laws::any_order`].
     ///
-    /// Errors: only for want of memory.
+    /// Errors: only if memory runs out.
     ///
     /// [`place`]: memory_pool::place
     /// [`laws::any_order`]: crate::laws::any_order
@@ -49,7 +49,7 @@ impl Map {
         Ok(Map { mapped, memory_len })
     }
 
-    /// Where `len` device addresses from `da` on stand, of which there is at least one. There is no such
+    /// Where `len` device addresses from `da` on are, of which there is at least one. There is no such
     /// place exactly where no single mapped block holds them all. It takes time logarithmic in the
     /// number of blocks.
     pub fn translate(&self, da: Da, len: u32) -> Option<Place>
@@ -69,7 +69,7 @@ impl Map {
         }
     }
 
-    /// Where `len` device addresses from `da` on, of which there is at least one, stand in the core's
+    /// Where `len` device addresses from `da` on, of which there is at least one, are in the core's
     /// memory. There is no such place exactly where no single block of memory holds them all.
     pub fn memory_at(&self, da: Da, len: u32) -> Option<u32>
         requires { 1 ≤ len }

@@ -28,7 +28,7 @@ impl CoreMemory {
 
     /// Zeros, as many bytes as all regions have. It takes memory once.
     ///
-    /// Errors: only for want of memory.
+    /// Errors: only if memory runs out.
     pub fn new(alloc: Global, regions: &Regions) -> Result<CoreMemory, NoMemory>
         ensures { IfOk result (λ memory. memory ≡ replicate (memory_len regions.now) 0) }
     {

@@ -38,7 +38,7 @@ impl Model for FreeList {
 impl FreeList {
     /// The buffers 0 to `count - 1` in order, with an empty message in each.
     ///
-    /// Errors: only for want of memory.
+    /// Errors: only if memory runs out.
     #[tactic(auto, using(crate::proofs::Numbered::numbered))]
     pub fn new(alloc: Global, count: u16) -> Result<FreeList, NoMemory>
         ensures buffers { IfOk result (λ pool. pool.buffers ≡ buffers_from 0 count) }
@@ -60,7 +60,7 @@ impl FreeList {
         self.buffers.pop_front()
     }
 
-    /// Puts a buffer behind the others.
+    /// Puts a buffer after the others.
     pub fn push(&mut self, buffer: Buffer)
         requires { length self.old.buffers < self.old.count }
         ensures buffers { self.new.buffers ≡ self.old.buffers ++ buffer ∷ [] }

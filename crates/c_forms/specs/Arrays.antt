@@ -3,7 +3,7 @@ use Rattle.std.specs.Prelude.{ℕ, List, ◌++◌, length, take, drop, nat_le, m
 use Rattle.c_forms.specs.declared.TheConstants.{DONE, WRONG_LENGTH}
 use Rattle.c_forms.specs.declared.faults.CFault.{CFault}
 
--- an array with a list written over its front, as much of it as there is room for (own)
+-- an array with a list written over its start, as much of it as there is room for (own)
 abbrev pub written_over : {A : Type 0} → List A → List A → List A
 written_over told array = take (length array) told ++ drop (length told) array
 
@@ -12,7 +12,7 @@ abbrev pub told_status : {A : Type 0} → Option CFault → List A → List A �
 told_status None told array = if nat_le (length told) (length array) then DONE else WRONG_LENGTH
 told_status (Some why) told array = why.number
 
--- the array behind it, which a refusal leaves as it was (own)
+-- the array after it, which a refusal leaves as it was (own)
 abbrev pub told_array : {A : Type 0} → Option CFault → List A → List A → List A
 told_array None told array = written_over told array
 told_array (Some why) told array = array

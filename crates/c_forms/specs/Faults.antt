@@ -1,4 +1,4 @@
--- Why something is refused, as C is told (own).
+-- Why something is refused, as C is given (own).
 use Rattle.std.specs.Prelude.{ℕ, Option, Some, None}
 use Rattle.std.specs.Option.{unwrap_or}
 use Rattle.elf_image.specs.Faults as elf
@@ -20,7 +20,7 @@ fault_of number about = record { number = unwrap_or number NO_MEMORY; about = un
 abbrev pub no_fault : CFault
 no_fault = record { number = 0; about = NOTHING }
 
--- want of memory (own)
+-- out of memory (own)
 abbrev pub no_memory : CFault
 no_memory = record { number = NO_MEMORY; about = NOTHING }
 

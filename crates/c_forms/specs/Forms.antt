@@ -1,4 +1,4 @@
--- The plain structs by which C is told what was read (own).
+-- The plain structs by which C is given what was read (own).
 use Rattle.std.specs.Prelude.{ℕ, length, replicate, Option}
 use Rattle.std.specs.Option.{unwrap_or}
 use Rattle.rp_base.specs.Texts.{padded_name}
@@ -25,7 +25,7 @@ ring_form ring = record { da = ring.da; align = ring.align; num = ring.num; noti
 abbrev pub no_ring : CRing
 no_ring = record { da = 0; align = 0; num = 0; notify = 0; pa = 0 }
 
--- an entry of a type, of which nothing more is told (own)
+-- an entry of a type, of which nothing more is given (own)
 abbrev pub blank : ℕ → CEntry
 blank kind = record {
   kind = kind;
@@ -55,7 +55,7 @@ device_form device = record (blank 3) {
   second = ring_form device.second;
 }
 
--- an entry by its type, RSC_CARVEOUT 0, RSC_DEVMEM 1, RSC_TRACE 2, RSC_VDEV 3 (enum fw_resource_type); the bytes of a trace stand at a place, if anything holds them (own)
+-- an entry by its type, RSC_CARVEOUT 0, RSC_DEVMEM 1, RSC_TRACE 2, RSC_VDEV 3 (enum fw_resource_type); the bytes of a trace are at a place, if anything holds them (own)
 abbrev pub entry_form : Option ℕ → Entry → CEntry
 entry_form place (entry.Carveout da pa len name) = record (blank 0) { da = da; pa = pa; len = len; name = padded_name name }
 entry_form place (entry.Devmem da pa len name) = record (blank 1) { da = da; pa = pa; len = len; name = padded_name name }

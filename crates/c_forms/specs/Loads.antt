@@ -1,4 +1,4 @@
--- What C is told of an image and its load (own).
+-- What C is given of an image and its load (own).
 use Rattle.std.specs.Prelude.{◌≡◌, ◌==◌, ℕ, List, [], length, map, Option, Some, None, option_map, Result, Ok, Err, if◌then◌else◌}
 use Rattle.std.specs.Option.{option_or}
 use Rattle.elf_image.specs.Images.{entry_of, image_fault}
@@ -56,7 +56,7 @@ patched_table image regions = patched_in (table_of image) (blocks_of image regio
 abbrev pub rings_of : List ℕ → List Region → Option RingPair
 rings_of image regions = pair_from (blocks_of image regions) 0 (entries_of (patched_table image regions))
 
--- what is told of an image that doesn't load: why, and zeros (own)
+-- what is given of an image that doesn't load: why, and zeros (own)
 abbrev pub refused_load : CFault → CLoad
 refused_load why = record {
   fault = why;
@@ -70,7 +70,7 @@ refused_load why = record {
   to_remote = no_ring;
 }
 
--- what is told of an image that loads, but for its rings (own)
+-- what is given of an image that loads, but for its rings (own)
 abbrev pub bare_load : ℕ → List ℕ → List Region → CLoad
 bare_load start table regions =
     record (refused_load no_fault) { entry = start; entries = length (entries_read table); memory_len = memory_len regions }
@@ -86,16 +86,16 @@ with_rings load (Some pair) = record load {
   to_remote = ring_form pair.to_remote;
 }
 
--- what is told of an image, by why it doesn't load (own)
+-- what is given of an image, by why it doesn't load (own)
 abbrev pub load_unless : Option CFault → List ℕ → List Region → CLoad
 load_unless None image regions = with_rings (bare_load (entry_of image) (patched_table image regions) regions) (rings_of image regions)
 load_unless (Some why) image regions = refused_load why
 
--- what is told of an image over regions (own)
+-- what is given of an image over regions (own)
 abbrev pub load_told : List ℕ → List Region → CLoad
 load_told image regions = load_unless (refusal image regions) image regions
 
--- where the bytes of an entry stand, if it is a trace and something holds them (own)
+-- where the bytes of an entry are, if it is a trace and something holds them (own)
 abbrev pub trace_place : Option TraceAt → Option ℕ
 trace_place None = None
 trace_place (Some trace) = trace.at
@@ -109,7 +109,7 @@ abbrev pub entries_told : List ℕ → List Region → List CEntry
 entries_told image regions =
     map (placed_form (memory_at regions (blocks_of image regions))) (entries_read (patched_table image regions))
 
--- the memory of a core behind the load of an image (own)
+-- the memory of a core after the load of an image (own)
 abbrev pub loaded_memory : List ℕ → List Region → List ℕ
 loaded_memory image regions = memory_of image regions (blocks_of image regions)
 
@@ -123,6 +123,6 @@ pub record IsLoadOf (image : List ℕ) (regions : List Region) (found : LoadOver
   pub over : found.regions ≡ regions
   pub loaded : IsLoaded image regions found.loaded
 
--- what is told of a load (own)
+-- what is given of a load (own)
 abbrev pub loaded_form : LoadOver → CLoad
 loaded_form found = with_rings (bare_load found.loaded.entry found.loaded.table found.regions) found.loaded.rings

@@ -1,4 +1,4 @@
--- What C is told of the header of a message and of messages of the name service, and what it has written (own).
+-- What C is given of the header of a message and of messages of the name service, and what it has written (own).
 use Rattle.std.specs.Prelude.{ℕ, ◌+◌, ◌==◌, nat_lt, not, Bool, List, ◌++◌, take, drop, Option, Some, None, if◌then◌else◌}
 use Rattle.rp_base.specs.Texts.{padded_name, text_before_zero}
 use Rattle.rp_base.specs.declared.limits.TheConstants.{NAME_MOST, PAYLOAD_MOST}
@@ -13,7 +13,7 @@ use Rattle.c_forms.specs.declared.messages.CService.{CService}
 abbrev pub read_status : Bool → ℕ
 read_status whole = if whole then DONE else 61
 
--- what is told of the header of a message that is whole, and what was there otherwise (own)
+-- what is given of the header of a message that is whole, and what was there otherwise (own)
 abbrev pub told_head : Bool → List ℕ → CHeader → CHeader
 told_head whole message was =
     if whole then (record { src = source_of message; dst = destination_of message; len = payload_length message }) else was
@@ -22,7 +22,7 @@ told_head whole message was =
 abbrev pub head_status : ℕ → ℕ → ℕ
 head_status len room = if nat_lt PAYLOAD_MOST len then 60 else if nat_lt room (16 + len) then WRONG_LENGTH else DONE
 
--- a buffer with a header at its front where the status is good, and as it was otherwise (own)
+-- a buffer with a header at its start where the status is good, and as it was otherwise (own)
 abbrev pub with_head : ℕ → ℕ → ℕ → ℕ → List ℕ → List ℕ
 with_head status src dst len buffer = if status == DONE then head_bytes src dst len ++ drop 16 buffer else buffer
 
@@ -31,7 +31,7 @@ abbrev pub service_status : Option NsMessage → ℕ
 service_status None = WRONG_LENGTH
 service_status (Some service) = DONE
 
--- what is told of such a payload, and what was there otherwise (own)
+-- what is given of such a payload, and what was there otherwise (own)
 abbrev pub service_told : Option NsMessage → CService → CService
 service_told None was = was
 service_told (Some service) was =
@@ -46,6 +46,6 @@ service_given given =
 abbrev pub service_room : ℕ → ℕ
 service_room room = if nat_lt room 40 then WRONG_LENGTH else DONE
 
--- a buffer with the message at its front where the status is good, and as it was otherwise (own)
+-- a buffer with the message at its start where the status is good, and as it was otherwise (own)
 abbrev pub with_service : ℕ → CService → List ℕ → List ℕ
 with_service status given buffer = if status == DONE then service_bytes (service_given given) ++ drop 40 buffer else buffer

@@ -16,7 +16,7 @@ region_of given = record { kind = if given.pool == 0 then Tcm else Pool; da = gi
 abbrev pub regions_of : List CRegion → List Region
 regions_of given = map region_of given
 
--- the first region that is refused behind those before it, with its number (own)
+-- the first region that is refused after those before it, with its number (own)
 abbrev pub region_refusal : List Region → List Region → Option CFault
 region_refusal before [] = None
 region_refusal before (next ∷ more) =

@@ -1,4 +1,4 @@
--- What C is told of a resource table, and what it may write into one (own).
+-- What C is given of a resource table, and what it may write into one (own).
 use Rattle.std.specs.Prelude.{ℕ, ◌+◌, ◌==◌, min, not, List, [], ◌∷◌, length, map, Option, Some, None, option_map, if◌then◌else◌}
 use Rattle.std.specs.Option.{option_or}
 use Rattle.resource_table.specs.Entries.{entries_of}
@@ -28,12 +28,12 @@ entries_read table = entries_unless (table_fault table) table
 abbrev pub table_refusal : List ℕ → Option CFault
 table_refusal table = option_map table_fault_form (table_fault table)
 
--- what is told of a table by its test (own)
+-- what is given of a table by its test (own)
 abbrev pub table_unless : Option TableFault → List ℕ → CTable
 table_unless None table = record { fault = no_fault; entries = length (entries_of table) }
 table_unless (Some why) table = record { fault = table_fault_form why; entries = 0 }
 
--- what is told of a table (own)
+-- what is given of a table (own)
 abbrev pub table_told : List ℕ → CTable
 table_told table = table_unless (table_fault table) table
 
@@ -62,7 +62,7 @@ wrong_fix entries index (given ∷ more) =
 abbrev pub patch_refusal : List ℕ → List CFix → Option CFault
 patch_refusal table fixes = option_or (table_refusal table) (wrong_fix (entries_of table) 0 fixes)
 
--- a table behind fixes, which a refusal leaves as it was (own)
+-- a table after fixes, which a refusal leaves as it was (own)
 abbrev pub patched_unless : Option CFault → List ℕ → List CFix → List ℕ
 patched_unless None table fixes = patched_of table (map fix_of fixes)
 patched_unless (Some why) table fixes = table

@@ -11,7 +11,7 @@ use resource_table::{Entry, Vdev};
 #[derive(Clone, Copy)]
 pub struct CEntry {
     /// Its type (`enum fw_resource_type` of `remoteproc.h`): 0 a carveout, 1 memory of a peripheral, 2 a
-    /// trace, 3 a device. Nothing more is told of an entry of another type.
+    /// trace, 3 a device. Nothing more is given of an entry of another type.
     pub kind: u32,
     /// The device address, of a carveout, of memory of a peripheral and of a trace.
     pub da: u32,
@@ -19,9 +19,9 @@ pub struct CEntry {
     pub pa: u32,
     /// Its bytes, of a carveout, of memory of a peripheral and of a trace.
     pub len: u32,
-    /// Where the bytes of a trace stand in the core's memory, and [`NOTHING`] where nothing holds them.
+    /// Where the bytes of a trace are in the core's memory, and [`NOTHING`] where nothing holds them.
     pub at: u32,
-    /// The name, of a carveout, of memory of a peripheral and of a trace, with zeros behind it.
+    /// The name, of a carveout, of memory of a peripheral and of a trace, with zeros after it.
     pub name: [u8; 32],
     /// What kind of device it is, 7 for RPMsg.
     pub id: u32,
@@ -39,7 +39,7 @@ pub struct CEntry {
     pub second: CRing,
 }
 
-/// An entry of a type, of which nothing more is told.
+/// An entry of a type, of which nothing more is given.
 fn blank(kind: u32) -> CEntry
     ensures { result ≡ blank kind }
 {
@@ -61,7 +61,7 @@ fn blank(kind: u32) -> CEntry
 }
 
 impl CEntry {
-    /// The form of an entry, whose bytes, if it is a trace, stand at a place in the core's memory.
+    /// The form of an entry, whose bytes, if it is a trace, are at a place in the core's memory.
     pub(crate) fn of(entry: &Entry, place: Option<u32>) -> CEntry
         ensures { result ≡ entry_form place entry.now }
     {

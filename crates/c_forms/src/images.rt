@@ -61,7 +61,7 @@ pub fn patched_entries(
     }
 }
 
-/// Writes the entries of a table, whose traces stand where a map says, over the front of an array.
+/// Writes the entries of a table, whose traces are where a map says, over the start of an array.
 fn put_entries(table: &[u8], places: &Map, array: &mut [CEntry], count: &mut usize) -> u32
     ensures status { result ≡ told_status None (map (placed_form (place_at places.now)) (entries_read table.now)) array.old }
     ensures entries { array.new ≡ told_array None (map (placed_form (place_at places.now)) (entries_read table.now)) array.old }
@@ -84,7 +84,7 @@ fn put_entries(table: &[u8], places: &Map, array: &mut [CEntry], count: &mut usi
     DONE
 }
 
-/// Where the bytes of an entry stand in the core's memory, if it is a trace and a block of memory holds
+/// Where the bytes of an entry are in the core's memory, if it is a trace and a block of memory holds
 /// them.
 fn trace_place(places: &Map, entry: &Entry) -> Option<u32>
     ensures { result ≡ trace_place (trace_of (place_at places.now) entry.now) }

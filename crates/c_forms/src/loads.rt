@@ -12,7 +12,7 @@ use memory_pool::Regions;
 use resource_table::Table;
 use std::alloc::Global;
 
-/// What is told of an image over regions: why it doesn't load, and zeros; or what its load gives.
+/// What is given of an image over regions: why it doesn't load, and zeros; or what its load gives.
 #[repr(C)]
 #[derive(Clone, Copy)]
 pub struct CLoad {
@@ -73,7 +73,7 @@ pub fn check_image(alloc: Global, image: &[u8], regions: &[CRegion], told: &mut 
     told.fault.number
 }
 
-/// What is told of an image that doesn't load.
+/// What is given of an image that doesn't load.
 fn refused(fault: CFault) -> CLoad
     ensures { result ≡ refused_load fault }
 {
@@ -90,7 +90,7 @@ fn refused(fault: CFault) -> CLoad
     }
 }
 
-/// What is told of an image that loads.
+/// What is given of an image that loads.
 fn form_of(found: &LoadOver) -> CLoad
     ensures { result ≡ loaded_form found.now }
 {

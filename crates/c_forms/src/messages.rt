@@ -16,7 +16,7 @@ const HEADER_SIZE: usize = 16;
 /// The bytes of a message to the name service.
 const SERVICE_SIZE: usize = 40;
 
-/// What the header of a message says. Its payload stands behind the 16 bytes of the header.
+/// What the header of a message says. Its payload comes after the 16 bytes of the header.
 #[repr(C)]
 #[derive(Clone, Copy)]
 pub struct CHeader {
@@ -43,7 +43,7 @@ pub struct CService {
 /// Reads the header of a message.
 ///
 /// The status is 0, or 61 where the message has no whole header or its header claims more bytes than
-/// there are; then nothing is told.
+/// there are; then nothing is given.
 pub fn read_head(message: &[u8], told: &mut CHeader) -> u32
     ensures status { result ≡ read_status (is_whole message.now) }
     ensures told { told.new ≡ told_head (is_whole message.now) message.now told.old }
@@ -63,8 +63,8 @@ pub fn read_head(message: &[u8], told: &mut CHeader) -> u32
     DONE
 }
 
-/// Writes the header of a message to the front of its buffer, for a payload of `len` bytes that stands
-/// behind it.
+/// Writes the header of a message to the start of its buffer, for a payload of `len` bytes that is
+/// after it.
 ///
 /// The status is 0; 60 where the payload is longer than 496 bytes; or [`WRONG_LENGTH`] where the buffer
 /// has no room for the header and the payload. The buffer is as it was where it isn't 0.
@@ -84,7 +84,7 @@ pub fn write_head(buffer: &mut [u8], src: u32, dst: u32, len: u32) -> u32
 
 /// Reads the payload of a message to the name service.
 ///
-/// The status is 0, or [`WRONG_LENGTH`] where it doesn't have 40 bytes; then nothing is told.
+/// The status is 0, or [`WRONG_LENGTH`] where it doesn't have 40 bytes; then nothing is given.
 pub fn read_service(payload: &[u8], told: &mut CService) -> u32
     ensures status { result ≡ service_status (service_of payload.now) }
     ensures told { told.new ≡ service_told (service_of payload.now) told.old }
@@ -102,7 +102,7 @@ pub fn read_service(payload: &[u8], told: &mut CService) -> u32
     }
 }
 
-/// Writes the payload of a message to the name service, 40 bytes, to the front of a buffer.
+/// Writes the payload of a message to the name service, 40 bytes, to the start of a buffer.
 ///
 /// The status is 0, or [`WRONG_LENGTH`] where the buffer has no room; then it is as it was.
 pub fn write_service(given: &CService, buffer: &mut [u8]) -> u32

@@ -3,7 +3,7 @@ ghost use Rattle.rp_base.specs.Texts.{padded_name};
 
 use rp_base::Name;
 
-/// The bytes of a name, and zeros behind them, 32 bytes in all.
+/// The bytes of a name, and zeros after them, 32 bytes in all.
 pub(crate) fn padded(name: &Name) -> [u8; 32]
     ensures { result ≡ padded_name name.now }
 {

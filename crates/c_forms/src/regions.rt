@@ -37,7 +37,7 @@ fn region_of(given: &CRegion) -> Region
     }
 }
 
-/// The regions of a core, in this order. The error is about the first one that is refused behind those
+/// The regions of a core, in this order. The error is about the first one that is refused after those
 /// before it.
 pub(crate) fn regions_of(alloc: Global, given: &[CRegion]) -> Result<Regions, CFault>
     ensures regions { IfOk result (λ regions. regions ≡ regions_of given.now) }

@@ -16,7 +16,7 @@ pub struct CSegment {
     pub index: u32,
     /// Where its memory begins, `p_paddr`.
     pub da: u32,
-    /// How many bytes the image gives, which stand at the front of its memory.
+    /// How many bytes the image gives, which are at the start of its memory.
     pub file_len: u32,
     /// How many bytes of memory it has, `p_memsz`, of which the rest is zeros.
     pub memory_len: u32,
@@ -55,7 +55,7 @@ pub fn image_segments(image: &[u8], array: &mut [CSegment], count: &mut usize) -
     }
 }
 
-/// Writes segments over the front of an array.
+/// Writes segments over the start of an array.
 fn put_segments(segments: Segments<'_>, array: &mut [CSegment], count: &mut usize) -> u32
     ensures status { result ≡ told_status None (map segment_form segments.entry) array.old }
     ensures segments { array.new ≡ told_array None (map segment_form segments.entry) array.old }

@@ -13,7 +13,7 @@ use crate::{DONE, NO_MEMORY, NOTHING, WRONG_FIX, WRONG_LENGTH};
 use resource_table::{Fix, Table};
 use std::alloc::Global;
 
-/// What is told of bytes that may be a resource table.
+/// What is given of bytes that may be a resource table.
 #[repr(C)]
 #[derive(Clone, Copy)]
 pub struct CTable {
@@ -62,7 +62,7 @@ pub fn table_entries(table: &[u8], array: &mut [CEntry], count: &mut usize) -> u
     }
 }
 
-/// Writes the entries of a table over the front of an array.
+/// Writes the entries of a table over the start of an array.
 fn put_entries(table: &Table<'_>, array: &mut [CEntry], count: &mut usize) -> u32
     ensures status { result ≡ told_status None (map (entry_form None) (entries_of table.now)) array.old }
     ensures entries { array.new ≡ told_array None (map (entry_form None) (entries_of table.now)) array.old }

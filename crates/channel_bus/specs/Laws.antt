@@ -21,7 +21,7 @@ use Rattle.name_service.specs.declared.channels.Channel.{Channel}
 use Rattle.name_service.specs.Channels.{kind_of}
 use Rattle.channel_bus.specs.Sides.{EndState, is_service, is_probed, endpoint_of_channel, without_endpoint, bindings_after_service, channels_after_service, service_verdict, after_service, endpoint_verdict, after_message, side_bind_answer, after_side_bind, after_side_unbind, side_fresh, side_meaning}
 
--- what stands in an option
+-- what is in an option
 some_is : {X : Type 0} (x y : X) → Some x ≡ Some y → x ≡ y
 some_is {X = X} x y e = ap (λ o. content o) e
   where
@@ -29,7 +29,7 @@ some_is {X = X} x y e = ap (λ o. content o) e
     content None = x
     content (Some z) = z
 
--- nothing stands in an option
+-- nothing is in an option
 none_is : {X : Type 0} (o : Option X) → is_some o ≡ false → o ≡ None
 none_is None e = refl
 none_is (Some x) e = absurd cc
@@ -158,7 +158,7 @@ unbound_removes side address =
 aim_by : (before after : EndState) → after.has_service ≡ before.has_service → KeepsAim side_meaning before after
 aim_by before after service message = ap (λ b. cond (is_whole message && not (b && eqb (destination_of message) 53)) (Some (destination_of message)) None) service
 
--- what stands of the name service
+-- what stays of the name service
 service_stays : (side : EndState) (service : Bool) (after : EndState) → after.has_service ≡ side.has_service → (cond service side after).has_service ≡ side.has_service
 service_stays side true after same = refl
 service_stays side false after same = same

@@ -1,4 +1,4 @@
--- What stands behind a receiver's turn: endpoints, channels and drivers (Linux drivers/rpmsg/virtio_rpmsg_bus.c, rpmsg_ns.c and rpmsg_core.c).
+-- What goes with a receiver's turn: endpoints, channels and drivers (Linux drivers/rpmsg/virtio_rpmsg_bus.c, rpmsg_ns.c and rpmsg_core.c).
 use Rattle.std.specs.Prelude.{ℕ, ◌+◌, ◌-◌, ◌^◌, nat_lt, Bool, ◌&&◌, not, ◌==◌, if◌then◌else◌, List, [], Option, Some, None, Result, Err}
 use Rattle.std.specs.Bool.{then_some}
 use Rattle.std.specs.List.{list_any}
@@ -92,7 +92,7 @@ channels_after_service side number ns Duplicate = channels_after side.channels n
 channels_after_service side number ns Unknown = channels_after side.channels ns
 channels_after_service side number ns ChannelsFull = channels_after side.channels ns
 
--- what a service message does, and what stands after it; number is that of the message
+-- what a service message does, and what is left after it; number is that of the message
 abbrev pub service_verdict : EndState → ℕ → Option NsMessage → Verdict
 service_verdict side number None = verdict.ServiceMalformed
 service_verdict side number (Some ns) =
@@ -121,7 +121,7 @@ verdict_on side number message =
     )
     else verdict.Malformed
 
--- what stands after the message of this number
+-- what is left after the message of this number
 abbrev pub after_message : EndState → ℕ → List ℕ → EndState
 after_message side number message =
     if is_whole message && is_service side (destination_of message)

@@ -38,7 +38,7 @@ impl Side {
     /// An end with no endpoint and no channel. Where `service` is set it has the name service,
     /// and a new channel whose name is among `drivers` gets an endpoint.
     ///
-    /// Errors: only for want of memory.
+    /// Errors: only if memory runs out.
     pub fn new(alloc: Global, service: bool, drivers: Vec<Name>) -> Result<Side, NoMemory>
         ensures { IfOk result (λ side. side ≡ record { has_service = service; drivers = drivers.items; bindings = no_bindings; channels = [] }) }
     {

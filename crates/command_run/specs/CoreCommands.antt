@@ -23,7 +23,7 @@ use Rattle.command_run.specs.CoreDrives.{drive_effect}
 use Rattle.command_run.specs.CoreLives.{crash_effect, detach_effect, shutdown_effect, started_effect}
 use Rattle.command_run.specs.CoreViews.{core_view_events}
 
--- why a region is not added, or a driver of this name not declared (want of memory is told by no line of a core, and ends the run)
+-- why a region is not added, or a driver of this name not declared (out of memory is written by no line of a core, and ends the run)
 abbrev pub add_fault_events : List ℕ → List ℕ → AddFault → List Event
 add_fault_events name channel add.NotOffline = event.NotOffline name ∷ []
 add_fault_events name channel (add.Region why) = event.Fault name (unwrap_or (region_fault_number why) 0) ∷ []
@@ -31,7 +31,7 @@ add_fault_events name channel add.DriverTaken = event.DriverTaken name channel �
 add_fault_events name channel add.DriversFull = event.DriversFull name ∷ []
 add_fault_events name channel add.NoMemory = []
 
--- a region that is added behind the others, or why it isn't
+-- a region that is added after the others, or why it isn't
 abbrev pub added_effect : List ℕ → CoreState → ℕ → Region → Option AddFault → CoreEffect
 added_effect name core steps region None =
     core_tells (record core { regions = core.regions ++ region ∷ [] }) steps (event.Region name (length core.regions))
@@ -41,7 +41,7 @@ added_effect name core steps region (Some why) = core_tells_all core steps (add_
 unfoldable pub region_effect : List ℕ → CoreState → ℕ → Region → CoreEffect
 region_effect name core steps region = added_effect name core steps region (add_fault core region)
 
--- a driver that is declared behind the others, or why it isn't
+-- a driver that is declared after the others, or why it isn't
 abbrev pub driver_effect_unless : List ℕ → CoreState → ℕ → List ℕ → DriverKind → Option AddFault → CoreEffect
 driver_effect_unless name core steps channel kind None = core_tells (with_driver core (channel, kind)) steps (event.Driver name channel kind)
 driver_effect_unless name core steps channel kind (Some why) = core_tells_all core steps (add_fault_events name channel why)
@@ -60,7 +60,7 @@ abbrev pub recovery_effect : List ℕ → CoreState → ℕ → Switch → CoreE
 recovery_effect name core steps set =
     core_tells (record core { life = record core.life { recovery = is_on set } }) steps (event.Recovery name set)
 
--- an act on a core, over the images that the script made, what the store tells of the one that is asked for, and whether drives are quiet
+-- an act on a core, over the images that the script made, what the store says of the one that is asked for, and whether drives are quiet
 unfoldable pub core_act_effect : List ImageState → ImageAnswer → Bool → NamedCoreState → ℕ → CoreAct → CoreEffect
 core_act_effect images answer is_quiet on steps (core.Region region) = region_effect on.name on.core steps region
 core_act_effect images answer is_quiet on steps (core.Driver channel kind) = driver_effect on.name on.core steps channel kind

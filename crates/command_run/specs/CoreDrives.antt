@@ -1,4 +1,4 @@
--- What a drive of a core's actors leaves of it and tells (own).
+-- What a drive of a core's actors leaves of it and writes (own).
 use Rattle.std.specs.Prelude.{◌≡◌, ℕ, zero, suc, ◌+◌, ◌==◌, ◌||◌, Bool, true, false, List, [], ◌∷◌, ◌++◌, Option, Some, None, is_some, unwrap_or, if◌then◌else◌}
 use Rattle.rp_base.specs.declared.limits.TheConstants.{STEPS_MOST}
 use Rattle.rp_base.specs.declared.kinds.CrashKind.TheVariants as kind
@@ -23,7 +23,7 @@ abbrev pub actor_end_events : List ℕ → ℕ → CallEnd → Option BenchState
 actor_end_events name caller end None = []
 actor_end_events name caller end (Some bench) = end_event name (link_in bench) caller end ∷ []
 
--- what a step of the actors tells, by what it was and the link that it left; the ends of calls are not told by a drive that is quiet
+-- what is written of a step of the actors, by what it was and the link that it left; the ends of calls are not written by a drive that is quiet
 abbrev pub driven_events : List ℕ → Bool → Option BenchState → DriveOutcome → List Event
 driven_events name is_quiet bench driven.Idle = []
 driven_events name is_quiet bench driven.Stepped = []

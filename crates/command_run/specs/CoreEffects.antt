@@ -1,10 +1,10 @@
--- What a command on a core leaves of it and tells (own).
+-- What a command on a core leaves of it and writes (own).
 use Rattle.std.specs.Prelude.{ℕ, List, [], ◌∷◌, Option, None}
 use Rattle.journal.specs.declared.events.Event.{Event}
 use Rattle.crash_recover.specs.Cores.{CoreState}
 use Rattle.link_commands.specs.declared.stops.Stop.{Stop}
 
--- what a command leaves of its core, the steps of the run until then, what it tells, and why the run stops in its midst, if it does
+-- what a command leaves of its core, the steps of the run until then, what it writes, and why the run stops in its midst, if it does
 pub record CoreEffect : Type 0 where
   pub core : CoreState
   pub steps : ℕ

@@ -1,4 +1,4 @@
--- What a boot, a handover, a recovery, a shutdown, a detach and a crash report of a core leave of it and tell (own).
+-- What a boot, a handover, a recovery, a shutdown, a detach and a crash report of a core leave of it and write (own).
 use Rattle.std.specs.Prelude.{ℕ, ◌+◌, ◌==◌, Bool, not, nat_le, length, List, [], ◌∷◌, Option, Some, None, unwrap_or, find, bytes_eq, option_map, Result, Ok, Err, if◌then◌else◌}
 use Rattle.rp_io.specs.Images.{ImageAnswer}
 use Rattle.rp_base.specs.declared.limits.TheConstants.{IMAGE_MOST, STEPS_MOST}
@@ -46,7 +46,7 @@ abbrev pub life_fault_event : List ℕ → LifeFault → Event
 life_fault_event name life.IncarnationsSpent = event.IncarnationsSpent name
 life_fault_event name why = event.Fault name (fault_number why)
 
--- why a core does not load an image; want of memory is no refusal, so its 0 is never told
+-- why a core does not load an image; out of memory is no refusal, so its 0 is never written
 abbrev pub load_fault_event : List ℕ → LoadFault → Event
 load_fault_event name why = fault_at name (unwrap_or (load_fault_number why) 0) (load_fault_index why)
 
@@ -87,12 +87,12 @@ image_bytes images name = option_map (λ (image : ImageState). image.bytes) (fin
 abbrev pub made_image : List ℕ → ImageAnswer
 made_image bytes = if nat_le (length bytes) IMAGE_MOST then Ok bytes else Err (no_image.TooLarge (length bytes))
 
--- the same, or what the store tells
+-- the same, or what the store says
 abbrev pub image_or : ImageAnswer → Option (List ℕ) → ImageAnswer
 image_or answer (Some bytes) = made_image bytes
 image_or answer None = answer
 
--- the image of this name: the script's, or else what the store tells
+-- the image of this name: the script's, or else what the store says
 abbrev pub found_image : List ImageState → ImageAnswer → List ℕ → ImageAnswer
 found_image images answer image = image_or answer (image_bytes images image)
 
@@ -122,7 +122,7 @@ started_effect start images answer on steps =
 abbrev pub core_stops : CoreState → ℕ → CoreEffect
 core_stops core steps = record { core = core; steps = steps; events = []; ending = Some stop.StepLimit }
 
--- what the leave of a user tells, with this event where it was the last
+-- what is written of the leave of a user, with this event where it was the last
 abbrev pub leave_events : List ℕ → Event → Result Leave LeaveFault → List Event
 leave_events name last (Ok (leave.Users users)) = event.Users name users ∷ []
 leave_events name last (Ok (leave.Last None)) = last ∷ []
@@ -165,7 +165,7 @@ abbrev pub crash_events : List ℕ → CrashKind → Option ℕ → List Event
 crash_events name kind None = event.Crashed name kind ∷ []
 crash_events name kind (Some inc) = event.Closed name inc ∷ event.Crashed name kind ∷ []
 
--- what a crash report tells
+-- what is written of a crash report
 abbrev pub report_events : List ℕ → CrashKind → Result Crash LifeFault → List Event
 report_events name kind (Ok (crash.First closed)) = crash_events name kind closed
 report_events name kind (Ok crash.Already) = event.AlreadyCrashed name ∷ []

@@ -1,4 +1,4 @@
--- What is told of a core's state, its resource table, its traces and its memory (own).
+-- What is written of a core's state, its resource table, its traces and its memory (own).
 use Rattle.std.specs.Prelude.{ℕ, nat_lt, List, [], ◌∷◌, map, Option, Some, None, if◌then◌else◌}
 use Rattle.rp_base.specs.Texts.{text_before_zero}
 use Rattle.journal.specs.declared.events.Event.{Event}

@@ -34,7 +34,7 @@ abbrev pub load_answer : Bool → ℕ → List ℕ → List ℕ → CoreState �
 load_answer is_taken kept name image core None = Err (event.NotCrashed name)
 load_answer is_taken kept name image core (Some load) = bytes_answer is_taken kept name image (dump_of load.entry (core_parts core))
 
--- the dump of the core of a name, or what is told in its place
+-- the dump of the core of a name, or what is written in its place
 abbrev pub core_answer : Bool → ℕ → List ℕ → List ℕ → Option NamedCoreState → Result (List ℕ) Event
 core_answer is_taken kept name image None = Err (event.Unknown name)
 core_answer is_taken kept name image (Some named) = load_answer is_taken kept name image named.core (crashed_load named.core.life.state named.core.loaded)

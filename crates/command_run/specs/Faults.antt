@@ -6,7 +6,7 @@ use Rattle.command_run.specs.declared.faults.OutputFault.TheVariants as output_f
 use Rattle.rp_io.specs.declared.faults.StoreFault.{StoreFault}
 use Rattle.rp_io.specs.declared.faults.StoreFault.TheVariants as store_fault
 
--- a store did not tell what it has
+-- a store did not say what it has
 abbrev pub store_command_fault : StoreFault → CommandFault
 store_command_fault store_fault.Failed = command_fault.Store
 store_command_fault store_fault.NoMemory = command_fault.NoMemory

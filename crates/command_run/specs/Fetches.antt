@@ -1,4 +1,4 @@
--- What code was told of the image that a command asks for (own).
+-- What code was given of the image that a command asks for (own).
 use Rattle.std.specs.Prelude.{◌≡◌, ℕ, List, ◌++◌, Option, IfSome, is_some, IsTrue, Result, Ok, Err}
 use Rattle.rp_io.specs.declared.faults.NoImage.TheVariants as no_image
 use Rattle.rp_io.specs.Causes.{Rose}
@@ -27,7 +27,7 @@ pub record DidTold (images : Option (List (List ℕ × List ℕ))) (run : RunSta
   pub is : IsShelf images shelf
   pub did : HandsRunEffect (effect_of (answer_for shelf (asked_name run.objects command)) run command) left before after written now answer
 
--- a text was cut off where the sink failed or memory ran out: a front of it is written
+-- a text was cut off where the sink failed or memory ran out: a prefix of it is written
 abbrev pub EndsCut : OutputFault → List ℕ → Option (List ℕ) → Option (List ℕ) → ℕ → ℕ → Type 0
 EndsCut output_fault.Failed text old new before now = AppendsFront old new text × Rose before now
 EndsCut output_fault.NoMemory text old new before now = AppendsFront old new text × (now ≡ before)
@@ -37,7 +37,7 @@ abbrev pub IfSinkFailed : OutputFault → Type 0 → Type 0
 IfSinkFailed output_fault.Failed holds = holds
 IfSinkFailed output_fault.NoMemory holds = Unit {0}
 
--- what a command tells was cut off, whatever the store has
+-- what a command writes was cut off, whatever the store has
 abbrev pub IsToldCut : OutputFault → RunState → Command → LogState → Option (List ℕ) → Option (List ℕ) → ℕ → ℕ → Type 0
 IsToldCut why run command before old new faults now =
     (shelf : Shelf) → EndsCut why (before.lines ++ transcript (effect_of (answer_for shelf (asked_name run.objects command)) run command).events) old new faults now
@@ -53,7 +53,7 @@ pub record IsCutCommand (run : RunState) (asked : Command) (left : ObjectsState)
   pub is : line_of asked ≡ drive_line name count
   pub cut : CutsRun (λ done. line_effect (Err no_image.Missing) run (drive_line name done)) count left before.lines written now
 
--- the lines that are kept behind a drive of a core: with less than a piece kept before it, they are few, however long it was
+-- the lines that are kept after a drive of a core: with less than a piece kept before it, they are few, however long it was
 abbrev pub KeepsDriven : RunState → List ℕ → ℕ → LogState → List ℕ → Type 0
 KeepsDriven run name count before lines =
     IfSome (core_under run.objects name) (λ _. KeepsLess before → KeepsWhole (λ done. (line_effect (Err no_image.Missing) run (drive_line name done)).events) count lines)
@@ -62,7 +62,7 @@ KeepsDriven run name count before lines =
 abbrev pub KeepsDrive : RunState → Command → LogState → List ℕ → Type 0
 KeepsDrive run asked before lines = (name : List ℕ) (count : ℕ) → line_of asked ≡ drive_line name count → KeepsDriven run name count before lines
 
--- a command was run, or it asked a store that failed, told nothing and left all as it was, or what it tells was cut off
+-- a command was run, or it asked a store that failed, told nothing and left all as it was, or what it writes was cut off
 abbrev pub RunsTold : Result (Option Stop) CommandFault → Option (List (List ℕ × List ℕ)) → RunState → Command → ObjectsState → LogState → LogState → Option (List ℕ) → Option (List ℕ) → ℕ → ℕ → ℕ → ℕ → Type 0
 RunsTold (Ok answer) images run command left before after old new faults now was then =
     DidTold images run command left before after old new answer × (now ≡ faults) × (then ≡ was)

@@ -1,4 +1,4 @@
--- What a command of a core, or of a run, left, told and answered (own).
+-- What a command of a core, or of a run, left, wrote and answered (own).
 use Rattle.std.specs.Prelude.{◌≡◌, ◌<◌, ◌≤◌, ◌⊎◌, ◌+◌, ℕ, Bool, List, [], ◌∷◌, ◌++◌, length, Option}
 use Rattle.rp_io.specs.Contents.{AppendsFront}
 use Rattle.journal.specs.declared.events.Event.{Event}
@@ -12,14 +12,14 @@ use Rattle.command_run.specs.CoreEffects.{CoreEffect}
 use Rattle.command_run.specs.CoreDrives.{IsDriven, drive_steps, effect_behind}
 use Rattle.command_run.specs.Runs.{ObjectsState, RunEffect}
 
--- a command left of its core, told and answered what this effect says
+-- a command left of its core, wrote and answered what this effect says
 pub record HasCoreEffect (effect : CoreEffect) (left : CoreState) (before after : LogState) (answer : Option Stop) : Type 0 where
   pub core : left ≡ effect.core
   pub steps : after.steps ≡ effect.steps
   pub lines : after.lines ≡ before.lines ++ transcript effect.events
   pub ending : answer ≡ effect.ending
 
--- what is left of a drive: it told these events, and the steps that are left do the rest, as would any number of them
+-- what is left of a drive: it wrote these events, and the steps that are left do the rest, as would any number of them
 pub record DrivesOn (name : List ℕ) (is_quiet : Bool) (count : ℕ) (first : CoreState) (before : LogState) (left : ℕ) (core : CoreState) (log : LogState) : Type 0 where
   pub done : ℕ
   pub all : done + left ≡ count
@@ -37,7 +37,7 @@ pub record DrivesHanding (name : List ℕ) (is_quiet : Bool) (count : ℕ) (firs
   pub hands : Hands written before.lines now log.lines (transcript told)
   pub rest : (more : ℕ) → drive_steps (done + more) name is_quiet first before.steps ≡ effect_behind told (drive_steps more name is_quiet core log.steps)
 
--- behind so many steps a drive has told these events, of which less than a piece is kept beside what it told since one of its last steps, or since it came to rest or the run had no step left
+-- after so many steps a drive has written these events, of which less than a piece is kept beside what it wrote since one of its last steps, or since it came to rest or the run had no step left
 pub record KeepsLast (events : ℕ → List Event) (count : ℕ) (told : List Event) (lines : List ℕ) : Type 0 where
   pub done : ℕ
   pub within : done ≤ count
@@ -55,7 +55,7 @@ pub record KeepsLast (events : ℕ → List Event) (count : ℕ) (told : List Ev
 abbrev pub KeepsWhole : (ℕ → List Event) → ℕ → List ℕ → Type 0
 KeepsWhole events count lines = KeepsLast events count (events count) lines
 
--- a drive of so many steps was cut off behind some of them, where the sink failed: a drive of just these leaves the same, and tells one event more, with which it ends; of what was told before that one some lines were handed on, and a front of those that were kept. With less than a piece kept before the drive, few were kept then
+-- a drive of so many steps was cut off after some of them, where the sink failed: a drive of just these leaves the same, and writes one event more, with which it ends; of what was written before that one some lines were handed on, and a prefix of those that were kept. With less than a piece kept before the drive, few were kept then
 pub record IsCutDrive (State : Type 0) (state : ℕ → State) (events : ℕ → List Event) (count : ℕ) (left : State) (lines : List ℕ) (written now : Option (List ℕ)) : Type 0 where
   pub done : ℕ
   pub within : done ≤ count
@@ -77,14 +77,14 @@ CutsCore drive count left lines written now = IsCutDrive CoreState (λ done. (dr
 abbrev pub CutsRun : (ℕ → RunEffect) → ℕ → ObjectsState → List ℕ → Option (List ℕ) → Option (List ℕ) → Type 0
 CutsRun drive count left lines written now = IsCutDrive ObjectsState (λ done. (drive done).run.objects) (λ done. (drive done).events) count left lines written now
 
--- a command left of its core, told and answered what this effect says, and some lines were handed on meanwhile
+-- a command left of its core, wrote and answered what this effect says, and some lines were handed on meanwhile
 pub record HandsCoreEffect (effect : CoreEffect) (left : CoreState) (before after : LogState) (written now : Option (List ℕ)) (answer : Option Stop) : Type 0 where
   pub core : left ≡ effect.core
   pub steps : after.steps ≡ effect.steps
   pub hands : Hands written before.lines now after.lines (transcript effect.events)
   pub ending : answer ≡ effect.ending
 
--- a command left of its run, told and answered what this effect says
+-- a command left of its run, wrote and answered what this effect says
 pub record HasRunEffect (effect : RunEffect) (left : ObjectsState) (before after : LogState) (answer : Option Stop) : Type 0 where
   pub objects : left ≡ effect.run.objects
   pub steps : after.steps ≡ effect.run.steps

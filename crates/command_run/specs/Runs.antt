@@ -1,4 +1,4 @@
--- The run of a script: what each command leaves and tells, from nothing on (own).
+-- The run of a script: what each command leaves and writes, from nothing on (own).
 use Rattle.std.specs.Prelude.{◌≡◌, ℕ, Bool, true, false, is_none, is_some, ◌+◌, nat_le, find, List, [], ◌∷◌, ◌++◌, length, slice_get, slice_set, Option, Some, None, Result, Ok, Err, bytes_eq, if◌then◌else◌}
 use Rattle.std.specs.List.{position}
 use Rattle.rp_io.specs.Images.{ImageAnswer, text_name}
@@ -56,7 +56,7 @@ pub record RunState : Type 0 where
   pub objects : ObjectsState
   pub steps : ℕ
 
--- what a command leaves of a run, what it tells, and why the run stops in its midst, if it does
+-- what a command leaves of a run, what it writes, and why the run stops in its midst, if it does
 pub record RunEffect : Type 0 where
   pub run : RunState
   pub events : List Event
@@ -190,7 +190,7 @@ find_core cores name = find (λ (named : NamedCoreState). bytes_eq named.name na
 abbrev pub core_under : ObjectsState → List ℕ → Option NamedCoreState
 core_under objects name = if is_some (place_of objects.links name) then None else find_core objects.cores name
 
--- the dump of the core of a name that is kept as an image, or what is told in its place
+-- the dump of the core of a name that is kept as an image, or what is written in its place
 abbrev pub dump_answer : ObjectsState → List ℕ → List ℕ → Result (List ℕ) Event
 dump_answer objects name image = core_answer (has_image objects.images image) (kept_dumps objects.images) name image (core_under objects name)
 
@@ -198,7 +198,7 @@ dump_answer objects name image = core_answer (has_image objects.images image) (k
 abbrev pub with_dump : RunState → List ℕ → List ℕ → RunState
 with_dump run name bytes = record run { objects = record run.objects { images = run.objects.images ++ record { name = name; bytes = bytes; is_dump = true } ∷ [] } }
 
--- a dump is kept, or something is told in its place
+-- a dump is kept, or something is written in its place
 abbrev pub dump_effect_of : RunState → List ℕ → Result (List ℕ) Event → RunEffect
 dump_effect_of run image (Ok bytes) = run_tells (with_dump run image bytes) (event.Image image (length bytes))
 dump_effect_of run image (Err told) = run_tells run told
@@ -207,7 +207,7 @@ dump_effect_of run image (Err told) = run_tells run told
 unfoldable pub dump_effect : RunState → List ℕ → List ℕ → RunEffect
 dump_effect run name image = dump_effect_of run image (dump_answer run.objects name image)
 
--- `quiet SWITCH`, which tells nothing
+-- `quiet SWITCH`, which writes nothing
 unfoldable pub quiet_effect : RunState → Switch → RunEffect
 quiet_effect run set = record { run = record run { objects = record run.objects { is_quiet = is_on set } }; events = []; ending = None }
 
@@ -218,7 +218,7 @@ line_effect answer run (line.Quiet set) = quiet_effect run set
 line_effect answer run (line.Dump name image) = dump_effect run name image
 line_effect answer run (line.On name act) = name_effect answer run name act
 
--- a command, over what the store tells of the image that it asks for
+-- a command, over what the store says of the image that it asks for
 unfoldable pub effect_of : ImageAnswer → RunState → Command → RunEffect
 effect_of answer run command = line_effect answer run (line_of command)
 
@@ -251,7 +251,7 @@ act_asks objects other = None
 abbrev pub asked_name : ObjectsState → Command → Option (List ℕ)
 asked_name objects command = act_asks objects (core_act (line_of command))
 
--- a run: what it tells, the state in which it ends, why it stopped in its midst, if it did, and whether the store failed and so ended it
+-- a run: what it writes, the state in which it ends, why it stopped in its midst, if it did, and whether the store failed and so ended it
 pub record Run : Type 0 where
   pub events : List Event
   pub last : RunState
@@ -270,7 +270,7 @@ run_on_answer run command (Some answer) later =
     let effect = effect_of answer run command in
     run_on effect effect.ending (later effect.run)
 
--- the run of these commands, from a state, over what the store tells
+-- the run of these commands, from a state, over what the store says
 unfoldable pub run_from : StoreAnswers → RunState → List Command → Run
 run_from told run [] = record { events = []; last = run; ending = None; failed = false }
 run_from told run (first ∷ more) =
@@ -280,7 +280,7 @@ run_from told run (first ∷ more) =
 abbrev pub new_run : RunState
 new_run = record { objects = record { links = []; cores = []; images = []; is_quiet = false }; steps = 0 }
 
--- the run of a script, over what the store tells
+-- the run of a script, over what the store says
 abbrev pub run_of : StoreAnswers → List Command → Run
 run_of told commands = run_from told new_run commands
 

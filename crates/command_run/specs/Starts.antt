@@ -1,4 +1,4 @@
--- The starts of a core that may need an image, over what a store tells of it (own).
+-- The starts of a core that may need an image, over what a store says of it (own).
 use Rattle.std.specs.Prelude.{◌≡◌, ℕ, true, false, List, Option, Some, None, is_some, IsTrue, Result, Ok, Err}
 use Rattle.rp_io.specs.Images.{ImageAnswer, IsToldFor, answer_of}
 use Rattle.rp_io.specs.Causes.{Rose}
@@ -28,7 +28,7 @@ abbrev pub image_answer : FoundImage → ImageAnswer
 image_answer (found_image.Script bytes) = made_image bytes.now
 image_answer (found_image.Store found) = answer_of found
 
--- it is the image of this name: the script's, or else what was told of the one that the store was asked for
+-- it is the image of this name: the script's, or else what was given of the one that the store was asked for
 pub record IsImageOf (images : Option (List (List ℕ × List ℕ))) (made : List ImageState) (name : List ℕ) (found : FoundImage) : Type 0 where
   pub answer : ImageAnswer
   pub is : IsToldFor images (outside_image made name) answer
@@ -52,7 +52,7 @@ Begins start core left (beginning.Done answer) =
     (start_needs start core ≡ false) × ((found : ImageAnswer) → start_with start core found ≡ record { core = left; answer = answer })
 Begins start core left (beginning.NeedsImage rest) = (start ≡ start_of rest) × (start_needs start core ≡ true) × NeedsImage left rest × (left ≡ core)
 
--- a start did what it does over what was told of the image that it asked for
+-- a start did what it does over what was given of the image that it asked for
 pub record DidStart (images : Option (List (List ℕ × List ℕ))) (start : StartAct) (made : List ImageState) (named : NamedCoreState) (left : CoreState) (before after : LogState) (ending : Option Stop) : Type 0 where
   pub answer : ImageAnswer
   pub is : IsToldFor images (start_image start made (Some named)) answer

@@ -1,4 +1,4 @@
--- What a store of images tells a run (own).
+-- What a store of images answers a run (own).
 use Rattle.std.specs.Prelude.{◌≡◌, ℕ, suc, List, Option, Some, None, Err}
 use Rattle.rp_io.specs.declared.faults.NoImage.TheVariants as no_image
 use Rattle.rp_io.specs.Images.{ImageAnswer, fetch_answer}
@@ -15,40 +15,40 @@ StoreAnswers = ℕ → Option Shelf
 abbrev pub store_of : List (List ℕ × List ℕ) → StoreAnswers
 store_of images number = Some (fetch_answer images)
 
--- what is told at the commands behind the first
+-- what is answered at the commands after the first
 abbrev pub later_answers : StoreAnswers → StoreAnswers
 later_answers told number = told (suc number)
 
--- what is told of the image that a command asks for; nothing, as of one that is missing, where it asks for none
+-- what is answered of the image that a command asks for; nothing, as of one that is missing, where it asks for none
 abbrev pub answer_for : Shelf → Option (List ℕ) → ImageAnswer
 answer_for shelf None = Err no_image.Missing
 answer_for shelf (Some name) = shelf name
 
--- what a command is told that asks for an image or for none; nothing where the store fails
+-- what a command is given that asks for an image or for none; nothing where the store fails
 abbrev pub store_answer : Option Shelf → Option (List ℕ) → Option ImageAnswer
 store_answer None None = Some (Err no_image.Missing)
 store_answer None (Some name) = None
 store_answer (Some shelf) asked = Some (answer_for shelf asked)
 
--- a store of these images has that; of one that doesn't tell its images nothing is known
+-- a store of these images has that; of one that doesn't say its images nothing is known
 abbrev pub IsShelf : Option (List (List ℕ × List ℕ)) → Shelf → Type 0
 IsShelf None shelf = Unit {0}
 IsShelf (Some images) shelf = shelf ≡ fetch_answer images
 
--- the store tells that, or it fails
+-- the store says that, or it fails
 abbrev pub IsToldAt : Option (List (List ℕ × List ℕ)) → Option Shelf → Type 0
 IsToldAt images None = Unit {0}
 IsToldAt images (Some shelf) = IsShelf images shelf
 
--- the store tells that, and it doesn't fail
+-- the store says that, and it doesn't fail
 abbrev pub IsHeldAt : Option (List (List ℕ × List ℕ)) → Option Shelf → Type 0
 IsHeldAt images None = ⊥
 IsHeldAt images (Some shelf) = IsShelf images shelf
 
--- at each command the store tells that, or it fails
+-- at each command the store says that, or it fails
 abbrev pub IsTold : Option (List (List ℕ × List ℕ)) → StoreAnswers → Type 0
 IsTold images told = (number : ℕ) → IsToldAt images (told number)
 
--- at each command the store tells that, and it fails at none
+-- at each command the store says that, and it fails at none
 abbrev pub IsHeld : Option (List (List ℕ × List ℕ)) → StoreAnswers → Type 0
 IsHeld images told = (number : ℕ) → IsHeldAt images (told number)

@@ -61,7 +61,7 @@ impl NamedCore {
         self.end_drive(left, log)
     }
 
-    /// A drive that hands on what is told as it goes.
+    /// A drive that hands on what is written as it goes.
     #[tactic(auto, unfolding(crate::specs::CoreDrives::drive_effect))]
     pub(crate) fn drive_handing<K: Sink>(
         &mut self,
@@ -86,7 +86,7 @@ impl NamedCore {
         Ok(self.drive_running(left, is_quiet, log)?)
     }
 
-    /// The steps of a drive that come before its last ones. What they tell is handed on as they go, and
+    /// The steps of a drive that come before its last ones. What they write is handed on as they go, and
     /// the answer is how many steps of the drive are left.
     fn drive_pieces<K: Sink>(
         &mut self,
@@ -184,7 +184,7 @@ impl NamedCore {
         }
     }
 
-    /// One step of the actors of a core that is up, which `driven` says: tells what it was, and answers
+    /// One step of the actors of a core that is up, which `driven` says: writes what it was, and answers
     /// whether they had something to do.
     #[inline(always)]
     fn drive_on(
@@ -204,7 +204,7 @@ impl NamedCore {
         Ok(!driven.is_rest())
     }
 
-    /// Tells what a step of the actors was.
+    /// Writes what a step of the actors was.
     #[inline(always)]
     fn tell_drive_step(
         &self,
@@ -224,7 +224,7 @@ impl NamedCore {
         }
     }
 
-    /// Tells a record that can't run, which crashed the core.
+    /// Writes a record that can't run, which crashed the core.
     #[inline(never)]
     fn tell_fault(
         &self,
@@ -239,7 +239,7 @@ impl NamedCore {
         self.tell_crash(CrashKind::Fatal, closed, log)
     }
 
-    /// Tells the end of a call of an actor.
+    /// Writes the end of a call of an actor.
     #[inline(never)]
     pub(crate) fn tell_end(
         &self,
@@ -257,7 +257,7 @@ impl NamedCore {
         Ok(())
     }
 
-    /// Tells a crash of the core, and which incarnation of its link this closed, if it closed one.
+    /// Writes a crash of the core, and which incarnation of its link this closed, if it closed one.
     #[inline(never)]
     fn tell_crash(
         &self,

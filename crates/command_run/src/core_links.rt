@@ -38,7 +38,7 @@ impl NamedCore {
         }
     }
 
-    /// Tells what the core's link shows.
+    /// Writes what the core's link shows.
     pub(crate) fn show(
         &mut self,
         view: LinkView,
@@ -55,7 +55,7 @@ impl NamedCore {
         }
     }
 
-    /// Tells the counts of both lanes of the core's link.
+    /// Writes the counts of both lanes of the core's link.
     fn tell_books(&mut self, log: &mut RunLog) -> Result<Option<Stop>, NoMemory>
         ensures same { self.new ≡ self.old }
         ensures effect { IfOk result (λ ending. HasCoreEffect (core_tells_all self.old.core log.old.steps (found_view_events self.old.name view.Books self.old.core.bench)) self.new.core log.old log.new ending) }
@@ -68,7 +68,7 @@ impl NamedCore {
         Ok(None)
     }
 
-    /// Tells the channels that the host end of the core's link knows.
+    /// Writes the channels that the host end of the core's link knows.
     fn tell_channels(&mut self, log: &mut RunLog) -> Result<Option<Stop>, NoMemory>
         ensures same { self.new ≡ self.old }
         ensures effect { IfOk result (λ ending. HasCoreEffect (core_tells_all self.old.core log.old.steps (found_view_events self.old.name view.Channels self.old.core.bench)) self.new.core log.old log.new ending) }
@@ -81,7 +81,7 @@ impl NamedCore {
         Ok(None)
     }
 
-    /// Tells the bytes of a lane's ring of the core's link, unless one of its turns is out.
+    /// Writes the bytes of a lane's ring of the core's link, unless one of its turns is out.
     #[tactic(auto, unfolding(crate::specs::CoreLinks::core_ring_events))]
     fn tell_ring(&mut self, lane: u64, log: &mut RunLog) -> Result<Option<Stop>, NoMemory>
         requires { lane ≤ 1 }

@@ -32,7 +32,7 @@ impl NamedCore {
         }
     }
 
-    /// Tells what a start of the core with the image of a name was, or why it was refused.
+    /// Writes what a start of the core with the image of a name was, or why it was refused.
     pub(crate) fn tell_start(
         &mut self,
         image: Name,
@@ -73,7 +73,7 @@ impl NamedCore {
         self.tell_leave(left, &Event::Detached { name: self.name }, log)
     }
 
-    /// Tells what the leave of a user was, with this event where it was the last, or why it was
+    /// Writes what the leave of a user was, with this event where it was the last, or why it was
     /// refused. The close of a link is a step.
     fn tell_leave(
         &mut self,
@@ -116,7 +116,7 @@ impl NamedCore {
         self.tell_report(report, kind, log)
     }
 
-    /// Tells what a crash report was, or why it was refused. The close of a link is a step.
+    /// Writes what a crash report was, or why it was refused. The close of a link is a step.
     fn tell_report(
         &mut self,
         report: Result<Crash, LifeFault>,
@@ -140,7 +140,7 @@ impl NamedCore {
         }
     }
 
-    /// Counts the step that closed an incarnation of the core's link, and tells it.
+    /// Counts the step that closed an incarnation of the core's link, and writes it.
     fn tell_close(&self, inc: Inc, log: &mut RunLog) -> Result<(), NoMemory>
         requires { log.old.steps < STEPS_MOST }
         ensures { OnOk result (log.new ≡ record { lines = log.old.lines ++ line (event.Closed self.now.name inc); steps = log.old.steps + 1 }) }

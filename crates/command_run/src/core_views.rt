@@ -15,7 +15,7 @@ use rp_base::{Da, Data, Name, NoMemory};
 use run_log::RunLog;
 
 impl NamedCore {
-    /// Tells what the core shows.
+    /// Writes what the core shows.
     pub(crate) fn show_core(&self, view: CoreView, log: &mut RunLog) -> Result<(), NoMemory>
         requires { IsFitCoreView view }
         ensures { IfOk result (λ _. Keeps log.old log.new (core_view_events self.now.name self.now.core view)) }
@@ -28,7 +28,7 @@ impl NamedCore {
         }
     }
 
-    /// Tells the state of the core, its users and its incarnation.
+    /// Writes the state of the core, its users and its incarnation.
     fn tell_state(&self, log: &mut RunLog) -> Result<(), NoMemory>
         ensures { IfOk result (λ _. Keeps log.old log.new (state_event self.now.name self.now.core ∷ [])) }
     {
@@ -38,7 +38,7 @@ impl NamedCore {
         log.tell(&event!(State, name, [users, inc], state))
     }
 
-    /// Tells the lines of the core's resource table, as it was loaded.
+    /// Writes the lines of the core's resource table, as it was loaded.
     #[tactic(auto, unfolding(crate::specs::CoreViews::table_events))]
     fn tell_table(&self, log: &mut RunLog) -> Result<(), NoMemory>
         ensures { IfOk result (λ _. Keeps log.old log.new (table_events self.now.name self.now.core)) }
@@ -51,7 +51,7 @@ impl NamedCore {
         tell_rows(name, rows.as_slice(), log)
     }
 
-    /// Tells the text of the trace of a number.
+    /// Writes the text of the trace of a number.
     #[tactic(auto, unfolding(crate::specs::CoreViews::trace_event))]
     fn tell_trace(&self, trace: u64, log: &mut RunLog) -> Result<(), NoMemory>
         ensures { IfOk result (λ _. Keeps log.old log.new (trace_event self.now.name self.now.core trace ∷ [])) }
@@ -64,7 +64,7 @@ impl NamedCore {
         log.tell(&Event::Trace { name, trace, text })
     }
 
-    /// Tells bytes of the core's memory, where one block holds them all.
+    /// Writes bytes of the core's memory, where one block holds them all.
     #[tactic(auto, unfolding(crate::specs::CoreViews::memory_event))]
     fn tell_memory(&self, da: Da, len: u32, log: &mut RunLog) -> Result<(), NoMemory>
         requires { 1 ≤ len }
@@ -79,7 +79,7 @@ impl NamedCore {
     }
 }
 
-/// Tells lines of a table in their order.
+/// Writes lines of a table in their order.
 fn tell_rows(name: Name, rows: &[TableLine], log: &mut RunLog) -> Result<(), NoMemory>
     ensures { OnOk result (log.new ≡ record log.old { lines = log.old.lines ++ transcript (map (table_event name) rows.now) }) }
 {

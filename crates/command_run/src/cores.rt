@@ -33,7 +33,7 @@ impl Model for NamedCore {
 
 impl NamedCore {
     /// Does what is asked under the name of this core, over the images that the script made and no
-    /// store, and whether drives are quiet: tells what came of it, and answers why the run stops in
+    /// store, and whether drives are quiet: writes what came of it, and answers why the run stops in
     /// its midst, if it does.
     #[tactic(auto, unfolding(crate::specs::CoreCommands::core_effect))]
     pub(crate) fn run(
@@ -85,7 +85,7 @@ impl NamedCore {
         }
     }
 
-    /// Tells one event, and leaves the core as it is.
+    /// Writes one event, and leaves the core as it is.
     pub(crate) fn tell(&mut self, event: &Event, log: &mut RunLog) -> Result<Option<Stop>, NoMemory>
         ensures same { self.new ≡ self.old }
         ensures effect { IfOk result (λ ending. HasCoreEffect (core_tells self.old.core log.old.steps event.now) self.new.core log.old log.new ending) }
@@ -94,7 +94,7 @@ impl NamedCore {
         Ok(None)
     }
 
-    /// Adds a region behind the others.
+    /// Adds a region after the others.
     #[tactic(auto, unfolding(crate::specs::CoreCommands::region_effect))]
     fn add_region(&mut self, region: Region, log: &mut RunLog) -> Result<Option<Stop>, NoMemory>
         ensures name { self.new.name ≡ self.old.name }
@@ -132,7 +132,7 @@ impl NamedCore {
         }
     }
 
-    /// Tells why a region is not added, or a driver for the channels of this name not declared.
+    /// Writes why a region is not added, or a driver for the channels of this name not declared.
     fn refuse_addition(
         &mut self,
         channel: Name,

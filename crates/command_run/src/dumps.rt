@@ -73,7 +73,7 @@ impl Objects {
         Ok(None)
     }
 
-    /// The dump of the core of a name that is to become an image, or what is told in its place.
+    /// The dump of the core of a name that is to become an image, or what is written in its place.
     fn dump_bytes(&self, name: Name, image: Name) -> Result<Result<Vec<u8>, Event>, NoMemory>
         ensures { IfOk result (λ answer. MatchResult answer (λ bytes. dump_answer self.now name image ≡ Ok bytes.items) (λ told. dump_answer self.now name image ≡ Err told)) }
     {
@@ -97,7 +97,7 @@ fn kept_dumps(images: &[ScriptImage]) -> usize
     images.iter().filter(|image| image.is_dump).count()
 }
 
-/// The dump of a core, or what is told in its place.
+/// The dump of a core, or what is written in its place.
 fn dump_core(
     alloc: Global,
     wish: &DumpWish,
@@ -125,7 +125,7 @@ fn crashed_load(core: &Core) -> Option<&Loaded>
     }
 }
 
-/// The dump of parts, or what is told in its place. A dump that isn't kept isn't made.
+/// The dump of parts, or what is written in its place. A dump that isn't kept isn't made.
 fn dump_parts(
     alloc: Global,
     wish: &DumpWish,

@@ -44,9 +44,9 @@ impl FoundImage<'_> {
     }
 }
 
-/// Runs one command over what the store has, tells its events, and answers why the run stops in its
-/// midst, if it does. A drive hands on what it tells as it goes: with less than a piece kept before it,
-/// less than a piece is kept beside what its last 1,024 steps, or one event, told, behind it and wherever
+/// Runs one command over what the store has, writes its events, and answers why the run stops in its
+/// midst, if it does. A drive hands on what it writes as it goes: with less than a piece kept before it,
+/// less than a piece is kept beside what its last 1,024 steps, or one event, wrote, after it and wherever
 /// the sink fails.
 ///
 /// Errors: [`CommandFault::Store`] where the store failed, which leaves objects and log as they were;
@@ -89,7 +89,7 @@ fn core_act(line: &Line<&Recipe, &[u8]>) -> Option<(Name, CoreAct)>
     }
 }
 
-/// The image of a name: the first that the script made, or else what the store tells of it. A name that
+/// The image of a name: the first that the script made, or else what the store says of it. A name that
 /// is no text is missing in each store.
 pub(crate) fn find_image<'a, F: FirmwareStore>(
     alloc: Global,

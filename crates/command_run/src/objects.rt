@@ -67,7 +67,7 @@ impl Objects {
 
     /// The same, with the room of as many links and cores as there may be.
     ///
-    /// Errors: want of memory.
+    /// Errors: out of memory.
     pub fn with_room(alloc: Global) -> Result<Objects, NoMemory>
         ensures { IfOk result (λ objects. objects ≡ new_run.objects) }
     {
@@ -132,10 +132,10 @@ impl Objects {
         Some(self.cores.remove(place).core)
     }
 
-    /// Runs one command over no store, tells its events, and answers why the run stops in its midst, if
+    /// Runs one command over no store, writes its events, and answers why the run stops in its midst, if
     /// it does.
     ///
-    /// Errors: want of memory, which may leave anything of the command undone.
+    /// Errors: out of memory, which may leave anything of the command undone.
     #[tactic(auto, unfolding(crate::specs::Runs::effect_of))]
     pub fn run(&mut self, command: &Command, log: &mut RunLog) -> Result<Option<Stop>, NoMemory>
         requires { IsRunnable command.now }
@@ -150,7 +150,7 @@ impl Objects {
 
     /// The same of what a command is about.
     ///
-    /// Errors: want of memory, which may leave anything of the command undone.
+    /// Errors: out of memory, which may leave anything of the command undone.
     pub(crate) fn run_line(
         &mut self,
         line: &Line<&Recipe, &[u8]>,
@@ -208,8 +208,8 @@ impl Objects {
         }
     }
 
-    /// Drives the core of this name, and hands on what is told as it goes. Under the name of a link, or
-    /// of nothing, that there is no such core is all that is told.
+    /// Drives the core of this name, and hands on what is written as it goes. Under the name of a link, or
+    /// of nothing, that there is no such core is all that is written.
     pub(crate) fn drive<K: Sink>(
         &mut self,
         name: Name,
@@ -239,7 +239,7 @@ impl Objects {
     }
 
     /// Starts the core of this name. Under the name of a link, or of nothing, that there is no such core
-    /// is all that is told.
+    /// is all that is written.
     pub(crate) fn start<F: FirmwareStore>(
         &mut self,
         name: Name,

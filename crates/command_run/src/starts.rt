@@ -39,7 +39,7 @@ pub enum Rest {
 /// The starts of a core. An image that the script made comes before one of the store, and the store is
 /// asked only where the core needs an image that the script didn't make.
 impl NamedCore {
-    /// Starts the core over no store, and tells what came of it.
+    /// Starts the core over no store, and writes what came of it.
     pub(crate) fn start_without_store(
         &mut self,
         start: StartAct,
@@ -60,7 +60,7 @@ impl NamedCore {
         }
     }
 
-    /// Starts the core over a store, and tells what came of it.
+    /// Starts the core over a store, and writes what came of it.
     pub(crate) fn start<F: FirmwareStore>(
         &mut self,
         start: StartAct,

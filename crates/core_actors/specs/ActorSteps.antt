@@ -127,6 +127,6 @@ abbrev pub worker_is_idle : Option BenchState → ActorsState → Bool
 worker_is_idle None actors = actors.worker.is_halted
 worker_is_idle (Some bench) actors = not (is_in_call bench 1) && worker_waits bench actors
 
--- the actors where the turn behind this one's step is the other's
+-- the actors where the turn after this one's step is the other's
 abbrev pub with_next_after : Actor → ActorsState → ActorsState
 with_next_after actor actors = record actors { next = other_actor actor }

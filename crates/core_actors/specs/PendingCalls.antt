@@ -105,7 +105,7 @@ pub record HasNoneBegun (bench : BenchState) : Type 0 where
   pub host : begun_call_of bench 0 ≡ None
   pub worker : begun_call_of bench 1 ≡ None
 
--- the actors stand ready for their next steps on this link: they have begun no call without a step of it, and hold what their calls give back
+-- the actors are ready for their next steps on this link: they have begun no call without a step of it, and hold what their calls give back
 pub record AreReady (actors : ActorsState) (bench : BenchState) : Type 0 where
   pub begun : HasNoneBegun bench
   pub calls : IsReadyBench actors bench

@@ -77,10 +77,10 @@ fn tell_reach(caller: CallerNo, reach: &Reach, driven: &mut DriveOutcome)
 
 impl Actors {
     /// A step of the host actor on a core's link, whose callers 0 and 1 are the actors' own and on which
-    /// both stand ready for their next steps, before and behind it. The next turn is the worker's. `driven`
+    /// both are ready for their next steps, before and after it. The next turn is the worker's. `driven`
     /// says what the step was.
     ///
-    /// Errors: only for want of memory. The link and the actors are as they were then.
+    /// Errors: only if memory runs out. The link and the actors are as they were then.
     #[inline(always)]
     pub fn host_step(
         &mut self,
@@ -111,10 +111,10 @@ impl Actors {
         Ok(())
     }
 
-    /// A step of a call of the worker on a core's link, over the same callers, on which both actors stand
-    /// ready too, before and behind it. The next turn is the host actor's. `driven` says what the step was.
+    /// A step of a call of the worker on a core's link, over the same callers, on which both actors are
+    /// ready too, before and after it. The next turn is the host actor's. `driven` says what the step was.
     ///
-    /// Errors: only for want of memory. The link and the actors are as they were then.
+    /// Errors: only if memory runs out. The link and the actors are as they were then.
     #[inline(always)]
     pub fn worker_step(
         &mut self,
@@ -153,7 +153,7 @@ impl Actors {
     /// The worker runs one record of an image that is loaded. The next turn is the host actor's.
     /// `driven` says what the step was.
     ///
-    /// Errors: only for want of memory. Memory and actors are as they were then.
+    /// Errors: only if memory runs out. Memory and actors are as they were then.
     #[inline(never)]
     pub fn run_record(
         &mut self,

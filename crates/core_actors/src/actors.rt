@@ -68,7 +68,7 @@ impl Actors {
         })
     }
 
-    /// Has the actors begin anew, with a worker whose first record stands at this device address.
+    /// Has the actors begin anew, with a worker whose first record is at this device address.
     pub fn restart(&mut self, entry: Da)
         ensures { actors_view self.new ≡ fresh_actors (actors_view self.old) entry }
     {
@@ -87,7 +87,7 @@ impl Actors {
         self.next
     }
 
-    /// Declares a driver for the channels of a name, behind the others.
+    /// Declares a driver for the channels of a name, after the others.
     ///
     /// Errors: those of [`Drivers::add`]. The actors are as they were then.
     pub fn add_driver(
@@ -106,7 +106,7 @@ impl Actors {
 
     /// The names of the declared drivers.
     ///
-    /// Errors: only for want of memory.
+    /// Errors: only if memory runs out.
     pub fn driver_names(&self, alloc: Global) -> Result<Vec<Name>, NoMemory>
         ensures { IfOk result (λ names. names.items ≡ driver_names (actors_view self.now)) }
     {

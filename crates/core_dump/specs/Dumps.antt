@@ -6,13 +6,13 @@ use Rattle.elf_writer.specs.Headers.{file_header}
 use Rattle.elf_writer.specs.Loads.{Load, load_headers}
 use Rattle.core_dump.specs.Parts.{MemoryPart, part_len}
 
--- the segments to load, whose bytes stand from a place of the image on without gaps: all memory of a part has bytes in the image (own)
+-- the segments to load, whose bytes lie from a place of the image on without gaps: all memory of a part has bytes in the image (own)
 abbrev pub loads_from : ℕ → List MemoryPart → List Load
 loads_from offset [] = []
 loads_from offset (part ∷ more) =
     record { offset = offset; da = part.da; memory_len = part_len part; file = part.bytes } ∷ loads_from (offset + part_len part) more
 
--- where the bytes of the parts begin: behind the ELF header and the program headers (own)
+-- where the bytes of the parts begin: after the ELF header and the program headers (own)
 abbrev pub data_start : List MemoryPart → ℕ
 data_start parts = 52 + 32 * length parts
 

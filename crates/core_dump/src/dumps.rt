@@ -43,7 +43,7 @@ pub fn dump_len(parts: &[Part<'_>]) -> usize
     data_start(parts.len()) + data_len(parts)
 }
 
-/// Where the bytes of so many parts begin: behind the ELF header and the program headers.
+/// Where the bytes of so many parts begin: after the ELF header and the program headers.
 fn data_start(count: usize) -> usize
     requires { count ≤ 1024 }
     ensures { result ≡ 52 + 32 * count }
@@ -55,7 +55,7 @@ fn data_start(count: usize) -> usize
 /// part. A reader of images finds the entry and the parts in it. There are 1 to 1,024 parts, of
 /// 16,777,216 bytes at most together; none is empty, and none passes the last address.
 ///
-/// Errors: only for want of memory.
+/// Errors: only if memory runs out.
 #[tactic(auto, using(crate::proofs::ReadBack::read_back))]
 pub fn write_dump(alloc: Global, entry: Da, parts: &[Part<'_>]) -> Result<Vec<u8>, NoMemory>
     requires { AreParts parts.now }
@@ -88,7 +88,7 @@ fn data_len(parts: &[Part<'_>]) -> usize
     parts.iter().map(|part| part.bytes.len()).sum()
 }
 
-/// Appends a program header for each part, whose bytes stand from a place of the image on.
+/// Appends a program header for each part, whose bytes lie from a place of the image on.
 fn put_program_headers(dump: &mut Vec<u8>, parts: &[Part<'_>], start: u64) -> Result<(), AllocError>
     requires { start + data_len parts.now < 2 ^ 64 }
     ensures { OnOk result (dump.new.items ≡ dump.old.items ++ load_headers (loads_from start parts.now)) }

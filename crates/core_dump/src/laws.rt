@@ -1,4 +1,4 @@
-//! What a dump tells of its parts. The law is the contract of an empty function, and speaks of definitions alone.
+//! What a dump says of its parts. The law is the contract of an empty function, and speaks of definitions alone.
 
 ghost use Rattle.std.specs.Prelude.{◌≡◌, ℕ, ◌<◌, ◌^◌, List};
 ghost use Rattle.core_dump.specs.Parts.{AreParts, MemoryPart};

@@ -41,7 +41,7 @@ fn binds(core: &mut Core, alloc: Global, caller: CallerNo) -> bool {
     )
 }
 
-/// Whether the rings are those of a new link, the buffers of lane 1 behind the 16 of lane 0.
+/// Whether the rings are those of a new link, the buffers of lane 1 after the 16 of lane 0.
 fn is_shown(core: &mut Core, alloc: Global) -> bool {
     let Some(_) = core.link() else {
         return false;

@@ -46,7 +46,7 @@ pub record IsCutPumpOnCore (core : CoreState) (steps sender receiver count : ℕ
   pub most : done ≤ count
   pub is : left ≡ (core_act core steps (act.Pump sender receiver done)).core
 
--- an act that ends early, for want of memory, leaves this of the core: a pump, some of its turns; any other act, the core as it was
+-- an act that ends early, because memory ran out, leaves this of the core: a pump, some of its turns; any other act, the core as it was
 abbrev pub IsCutOnCore : CoreState → ℕ → LinkAct (List ℕ) → CoreState → Type 0
 IsCutOnCore core steps (act.Pump sender receiver count) left = IsCutPumpOnCore core steps sender receiver count left
 IsCutOnCore core steps other left = left ≡ core

@@ -36,7 +36,7 @@ use Rattle.link_bench.specs.Benches.{BenchState, new_bench_of, with_new_caller}
 use Rattle.core_actors.specs.Actors.{driver_names, fresh_actors}
 use Rattle.crash_recover.specs.Cores.{CoreOutcome, CoreState, LoadState, loaded_rings, refuse_or}
 
--- why a store tells nothing of an image, as a call that asks it answers that (own)
+-- why a store says nothing of an image, as a call that asks it answers that (own)
 abbrev pub core_fault_of_store : StoreFault → CoreFault
 core_fault_of_store store_fault.Failed = fault.Fetch fetch.Failed
 core_fault_of_store store_fault.NoMemory = fault.NoMemory
@@ -98,7 +98,7 @@ with_load core name given = record core { image = Some name; loaded = Some given
 
 -- ---- boots
 
--- where the first record stands of what was loaded
+-- where the first record is of what was loaded
 abbrev pub loaded_entry : Option LoadState → ℕ
 loaded_entry loaded = unwrap_or (option_map (λ (given : LoadState). given.entry) loaded) 0
 
@@ -173,6 +173,6 @@ power_of start.Detached = power.First
 abbrev pub in_short : {A B E G : Type 0} → (A → B) → (E → G) → CoreOutcome A E → CoreOutcome B G
 in_short short why outcome = record { core = outcome.core; answer = result_map_both short why outcome.answer }
 
--- an answer of which no more is told than that there is one (own)
+-- an answer of which no more is given than that there is one (own)
 abbrev pub as_unit : {A : Type 0} → A → Unit {0}
 as_unit answer = tt

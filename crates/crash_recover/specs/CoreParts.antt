@@ -8,7 +8,7 @@ use Rattle.memory_pool.specs.declared.regions.Region.{Region}
 use Rattle.core_dump.specs.Parts.{MemoryPart, part_len}
 use Rattle.crash_recover.specs.Cores.{CoreState, LoadState, core_memory}
 
--- where the blocks of memory stand, each by its device address and its length: the regions that always are mapped, as they were declared, then the placed blocks without windows
+-- where the blocks of memory are, each by its device address and its length: the regions that are always mapped, as they were declared, then the placed blocks without windows
 abbrev pub memory_ranges : List Region → List Block → List (ℕ × ℕ)
 memory_ranges regions placed =
     map (λ (region : Region). (region.da, region.len)) (filter (λ region. not (is_pool region)) regions)
@@ -19,7 +19,7 @@ abbrev pub loaded_ranges : List Region → Option LoadState → List (ℕ × ℕ
 loaded_ranges regions None = []
 loaded_ranges regions (Some load) = memory_ranges regions load.placed
 
--- where the blocks of memory of a core stand
+-- where the blocks of memory of a core are
 abbrev pub core_ranges : CoreState → List (ℕ × ℕ)
 core_ranges core = loaded_ranges core.regions core.loaded
 
@@ -31,7 +31,7 @@ part_at core range = option_map (λ bytes. record { da = range.0; bytes = bytes 
 abbrev pub core_parts : CoreState → List MemoryPart
 core_parts core = filter_map (part_at core) (core_ranges core)
 
--- where a part stands
+-- where a part is
 abbrev pub part_range : MemoryPart → ℕ × ℕ
 part_range part = (part.da, part_len part)
 

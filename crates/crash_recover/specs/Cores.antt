@@ -76,14 +76,14 @@ loaded_rings loaded = option_and_then (λ (load : LoadState). load.rings) loaded
 abbrev pub add_fault : CoreState → Region → Option AddFault
 add_fault core added = if is_offline core.life.state then option_map add.Region (region_fault core.regions added) else Some add.NotOffline
 
--- the refusal of a region, where want of memory stands alone
+-- the refusal of a region, where out of memory is alone
 abbrev pub add_fault_of : RegionFault → AddFault
 add_fault_of region.RegionOverlap = add.Region region.RegionOverlap
 add_fault_of region.RegionRange = add.Region region.RegionRange
 add_fault_of region.RegionsFull = add.Region region.RegionsFull
 add_fault_of region.NoMemory = add.NoMemory
 
--- the refusal of a driver, where want of memory stands alone
+-- the refusal of a driver, where out of memory is alone
 abbrev pub add_fault_of_driver : DriverFault → AddFault
 add_fault_of_driver driver.DriverTaken = add.DriverTaken
 add_fault_of_driver driver.DriversFull = add.DriversFull
@@ -125,7 +125,7 @@ pub record IsSoundLoad (regions : List Region) (loaded : Loaded) : Type 0 where
   pub buffers : IfSome loaded.rings HasBuffers
   pub entry : is_some (memory_at regions loaded.placed.blocks.items loaded.entry 16) ≡ true
 
--- what a core keeps: its book is one that a lane may have, what it was given is sound, it has an image and what that became exactly while it is not offline, no link without users, what its link keeps, and that this stands ready for its actors
+-- what a core keeps: its book is one that a lane may have, what it was given is sound, it has an image and what that became exactly while it is not offline, no link without users, what its link keeps, and that this is ready for its actors
 pub record SoundCore (regions : List Region) (messages : ℕ) (life : CoreLife) (name : Option (List ℕ)) (given : Option Loaded) (link : Option BenchState) (actors : ActorsState) : Type 0 where
   pub book : (1 ≤ messages) × (messages ≤ BOOK_MOST)
   pub loaded : IfSome given (IsSoundLoad regions)
@@ -139,6 +139,6 @@ pub record SoundCore (regions : List Region) (messages : ℕ) (life : CoreLife) 
 abbrev pub IsKeptCore : CoreState → Type 0
 IsKeptCore core = IfSome core.bench (IsKeptBench core.life)
 
--- and it stands ready for the core's actors (own)
+-- and it is ready for the core's actors (own)
 abbrev pub IsReadyCore : CoreState → Type 0
 IsReadyCore core = IsReadyLink core.life.state core.actors core.bench

@@ -119,7 +119,7 @@ is_idle core = is_idle_actor core actor.Host && is_idle_actor core actor.Worker
 abbrev pub actor_to_step : CoreState → Actor
 actor_to_step core = if is_idle_actor core core.actors.next then other_actor core.actors.next else core.actors.next
 
--- the core where the turn behind an actor's step is the other's
+-- the core where the turn after an actor's step is the other's
 abbrev pub with_turn_after : Actor → CoreState → CoreState
 with_turn_after actor core = record core { actors = with_next_after actor core.actors }
 

@@ -45,6 +45,6 @@ pub record ReadyLink (state : LifeState) (host_calls : List Wish) (is_taking : B
   pub begun : IfSome link HasNoneBegun
   pub calls : is_up state ≡ true → IfSome link (HoldGiven host_calls is_taking worker_calls)
 
--- the same of these actors: it stands ready for their next steps
+-- the same of these actors: it is ready for their next steps
 abbrev pub IsReadyLink : LifeState → ActorsState → Option BenchState → Type 0
 IsReadyLink state actors link = ReadyLink state actors.host_calls actors.is_taking actors.worker_calls link

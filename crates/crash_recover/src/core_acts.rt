@@ -16,7 +16,7 @@ impl Core {
     /// see how the calls of host callers end: what one sends is the last of the host actor's calls.
     /// There is no answer exactly where the core has no link.
     ///
-    /// Errors: only for want of memory, which comes before a call, steps or a turn whose end the drivers
+    /// Errors: only if memory runs out, which comes before a call, steps or a turn whose end the drivers
     /// may see. The core is as it was then, or, of a pump, as so many of its turns leave it.
     pub fn act(
         &mut self,

@@ -302,7 +302,7 @@ impl Core {
         }
     }
 
-    /// Where the first record stands of what is loaded.
+    /// Where the first record is of what is loaded.
     fn entry(&self) -> Da
         ensures { result ≡ loaded_entry self.now.loaded }
     {
@@ -321,7 +321,7 @@ fn power_of(answer: Result<Start, StartFault>) -> Result<Power, CoreFault>
     Ok(answer?.power())
 }
 
-/// The answer of a start of which no more is told than that it was done.
+/// The answer of a start of which no more is given than that it was done.
 pub(crate) fn unit_of(answer: Result<Start, StartFault>) -> Result<(), CoreFault>
     ensures answer { result ≡ result_map_both as_unit core_fault_of_start answer }
     ensures told { result ≢ Err (fault.Fetch fetch.Failed) }

@@ -100,7 +100,7 @@ impl Core {
 
     /// Does the act of one step for a caller, and answers how far its call came, where the act answers that.
     ///
-    /// Errors: only for want of memory. The core is as it was then.
+    /// Errors: only if memory runs out. The core is as it was then.
     fn act_step(&mut self, alloc: Global, caller: CallerNo) -> Result<Option<Reach>, NoMemory>
         requires { caller < CALLERS_MOST }
         ensures left { OnOk result (self.new ≡ (core_act self.old 0 (act.Step caller 0)).core) }
@@ -150,7 +150,7 @@ impl Core {
         bench.reclaim(caller)
     }
 
-    /// The era of the core's link and the words of both its lanes as they stand, over the buffers that
+    /// The era of the core's link and the words of both its lanes as they are, over the buffers that
     /// the image's device for RPMsg was given.
     ///
     /// Errors: those of [`Bench::snapshot`].

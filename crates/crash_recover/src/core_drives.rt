@@ -29,7 +29,7 @@ impl Core {
     /// the worker runs one record. What the ends of the host's calls have its drivers send is the last
     /// of its calls.
     ///
-    /// Errors: only for want of memory. The core is as it was then.
+    /// Errors: only if memory runs out. The core is as it was then.
     pub fn drive_step(&mut self, alloc: Global) -> Result<DriveOutcome, NoMemory>
         requires { is_up self.old.life.state ≡ true }
         ensures driven { IfOk result (λ driven. driven ≡ (drive_step self.old).driven) }
@@ -44,7 +44,7 @@ impl Core {
 
     /// The same step; `driven` says what it was.
     ///
-    /// Errors: only for want of memory. The core is as it was then.
+    /// Errors: only if memory runs out. The core is as it was then.
     #[inline]
     pub fn drive_on(&mut self, _alloc: Global, driven: &mut DriveOutcome) -> Result<(), NoMemory>
         requires { is_up self.old.life.state ≡ true }

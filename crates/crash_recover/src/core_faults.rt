@@ -11,7 +11,7 @@ use rp_io::{FetchFault, NoImage, StoreFault};
 pub enum AddFault {
     /// The core is not offline.
     NotOffline,
-    /// The region doesn't fit beside the others. It is never want of memory.
+    /// The region doesn't fit beside the others. It is never out of memory.
     Region(RegionFault),
     /// A driver of this name is declared.
     DriverTaken,
@@ -56,7 +56,7 @@ pub const RINGS_CHANGED: u8 = 42;
 /// The number of the fault of a host caller that keeps a core from being shut down or detached.
 pub const CALLER_OUT: u8 = 54;
 
-/// Why a core is not booted, handed over or recovered. A fault inside another is never want of memory.
+/// Why a core is not booted, handed over or recovered. A fault inside another is never out of memory.
 #[derive(Debug, Drop)]
 pub enum StartFault {
     /// There is no image.
@@ -92,7 +92,7 @@ impl From<LifeFault> for LeaveFault {
 }
 
 /// Why a core is not booted, handed over or recovered over a store, shut down or detached. A fault inside
-/// another is never want of memory.
+/// another is never out of memory.
 #[derive(Debug, Drop)]
 pub enum CoreFault {
     /// The store gives no image.

@@ -26,7 +26,7 @@ impl Core {
 
     /// All blocks of memory, in that order.
     ///
-    /// Errors: only for want of memory.
+    /// Errors: only if memory runs out.
     pub fn parts(&self, alloc: Global) -> Result<Vec<Part<'_>>, NoMemory>
         ensures parts { IfOk result (λ parts. parts.items ≡ core_parts self.now) }
         ensures blocks { AreBlocksOf self.now (core_parts self.now) }
@@ -43,7 +43,7 @@ impl Core {
         Ok(parts)
     }
 
-    /// Where the blocks of memory stand, in order: the device address of each, and its length.
+    /// Where the blocks of memory are, in order: the device address of each, and its length.
     fn ranges(&self, alloc: Global) -> Result<Vec<(Da, u32)>, NoMemory>
         ensures ranges { IfOk result (λ ranges. ranges.items ≡ core_ranges self.now) }
         ensures some { All (λ range. 1 ≤ range.1) (core_ranges self.now) }
@@ -57,7 +57,7 @@ impl Core {
         }
     }
 
-    /// Where the block of memory of a number stands.
+    /// Where the block of memory of a number is.
     fn range_at(&self, index: usize) -> Option<(Da, u32)>
         ensures range { result ≡ slice_get (core_ranges self.now) index }
         ensures some { All (λ range. 1 ≤ range.1) (core_ranges self.now) }
@@ -71,7 +71,7 @@ impl Core {
     }
 }
 
-/// Where the blocks of memory stand, in the order of [`Core::part`].
+/// Where the blocks of memory are, in the order of [`Core::part`].
 fn memory_ranges(
     alloc: Global,
     regions: &[Region],

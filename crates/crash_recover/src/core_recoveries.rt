@@ -94,7 +94,7 @@ impl Core {
     /// [`StartFault::Life`] where no incarnation is left: the core stays crashed, with a new caller 0
     /// where the old one was reclaimed.
     ///
-    /// Errors: want of memory, which may come at the load, or after all other tests. The core is as it
+    /// Errors: out of memory, which may come at the load, or after all other tests. The core is as it
     /// was then, or still crashed with a new caller 0.
     #[tactic(auto, unfolding(crate::specs::CoreRecoveries::recovery_of))]
     pub fn recover_image(

@@ -18,7 +18,7 @@ impl Core {
     /// where the core has no link, or what it loaded no rings. No turn of its link is out. The core stays as
     /// it is.
     ///
-    /// Errors: only for want of memory.
+    /// Errors: only if memory runs out.
     pub fn ring_bytes(&mut self, alloc: Global, lane: u64) -> Result<Option<Vec<u8>>, NoMemory>
         requires { core_turn_holder self.old ≡ None }
         ensures same { self.new ≡ self.old }

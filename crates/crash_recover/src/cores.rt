@@ -54,7 +54,7 @@ impl Core {
     /// accept `book` messages in one incarnation, 1 to 262,144. Of two drivers of one name the first
     /// counts.
     ///
-    /// Errors: only for want of memory.
+    /// Errors: only if memory runs out.
     pub fn new(
         alloc: Global,
         regions: Regions,
@@ -76,7 +76,7 @@ impl Core {
         })
     }
 
-    /// Adds a region behind the others, and answers its number.
+    /// Adds a region after the others, and answers its number.
     ///
     /// Errors: [`AddFault::NotOffline`], then [`AddFault::Region`] where the region doesn't fit
     /// beside the others, then [`AddFault::NoMemory`]. The core is as it was then.
@@ -93,7 +93,7 @@ impl Core {
         Ok(self.regions.add(alloc, region)?)
     }
 
-    /// Declares a driver for the channels of a name, behind the others.
+    /// Declares a driver for the channels of a name, after the others.
     ///
     /// Errors: [`AddFault::NotOffline`], then [`AddFault::DriverTaken`], [`AddFault::DriversFull`] and
     /// [`AddFault::NoMemory`]. The core is as it was then.
@@ -146,7 +146,7 @@ impl Core {
 
     /// The link of the core, or none where the core has no users or its image no device for RPMsg. The
     /// core's own callers are in use on it, 0 at the host and 1 at the remote, and it is in the incarnation
-    /// of the core's life, live exactly while the core is up. It stands ready for the core's actors: neither
+    /// of the core's life, live exactly while the core is up. It is ready for the core's actors: neither
     /// has begun a call without a step of it, and while the core is up they hold what their calls give back.
     pub fn link(&self) -> Option<&Bench>
         ensures link { option_copied result ≡ self.now.bench }

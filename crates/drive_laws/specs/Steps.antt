@@ -6,7 +6,7 @@ use Rattle.core_actors.specs.declared.actors.Actor.{Actor}
 use Rattle.crash_recover.specs.Cores.{CoreState}
 use Rattle.crash_recover.specs.Drives.{DriveStep, actor_step, drive_step, is_idle, with_turn_after}
 
--- the step of this actor, behind which the turn is the other's
+-- the step of this actor, after which the turn is the other's
 abbrev pub step_by : Actor → CoreState → DriveStep
 step_by one core = actor_step one (with_turn_after one core)
 

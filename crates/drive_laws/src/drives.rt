@@ -23,7 +23,7 @@ ghost use Rattle.drive_laws.specs.Places.{StaysAt, GoesOn};
 ghost use Rattle.drive_laws.specs.Queues.{IsQueued, IsServed};
 ghost use Rattle.drive_laws.specs.Steps.{step_by, rests, after_steps, drive_length, after_drive};
 
-/// The actors take turns: a step is that of the actor whose turn it is, or that of the other where this one has nothing to do, and behind it
+/// The actors take turns: a step is that of the actor whose turn it is, or that of the other where this one has nothing to do, and after it
 /// the turn is that of the one who did not make it. Where both have nothing to do there is no step.
 pub fn turns()
     ensures own { (core : CoreState) → is_idle_actor core core.actors.next ≡ false → drive_step core ≡ step_by core.actors.next core }
@@ -66,9 +66,9 @@ pub fn calls()
         → (step_by actor.Worker core).core.bench ≡ Some (start_walk bench 0 1 first).bench }
 {}
 
-/// What an actor is yet to do is done in order: a call goes from the front of its list, and new ones stand behind the others. But the worker
+/// What an actor is yet to do is done in order: a call goes from the start of its list, and new ones come after the others. But the worker
 /// gives back what it took before it makes the others. No step of one actor touches the list of the other, and what a driver sends for another
-/// caller's message stands behind all that the host actor is yet to do.
+/// caller's message comes after all that the host actor is yet to do.
 pub fn pending()
     ensures host { (core : CoreState) → IsQueued 1 core.actors.host_calls (step_by actor.Host core).core.actors.host_calls }
     ensures worker { (core : CoreState) → IsServed core.actors.worker_calls (step_by actor.Worker core).core.actors.worker_calls }
@@ -80,7 +80,7 @@ pub fn pending()
 {}
 
 /// The records of a worker are run in order: the one that is run is the one at its place, and a place moves only as the record says that was
-/// run. A record that can't run, a step of a call, and each step of the host actor leave the worker where it stands, and a worker that has
+/// run. A record that can't run, a step of a call, and each step of the host actor leave the worker where it is, and a worker that has
 /// ended stays where it is.
 pub fn records()
     ensures at { (memory : List ℕ) (map : Mapping) (linked : Bool) (worker : WorkerState) (op : Record) → next_record memory map linked worker ≡ Ok op

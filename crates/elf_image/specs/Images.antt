@@ -35,7 +35,7 @@ header_fault layout header len = first_fault
     ∷ fault_if (nat_lt 0xffffffff header.entry) fault.WideEntry
     ∷ [])
 
--- the tests behind the identification, where the layout is known (own)
+-- the tests after the identification, where the layout is known (own)
 abbrev pub contents_fault : Option Layout → List ℕ → Option ElfFault
 contents_fault None bytes = None
 contents_fault (Some layout) bytes =

@@ -1,4 +1,4 @@
--- Where the headers of an image and their fields stand, by its class.
+-- Where the headers of an image and their fields are, by its class.
 use Rattle.std.specs.Prelude.{◌≡◌, ℕ, ◌+◌, ◌≤◌, ◌⊎◌, List, slice_index, Option, Some, None, option_map, if◌then◌else◌, ◌==◌}
 use Rattle.rp_base.specs.Fields.{number_at}
 use Rattle.elf_image.specs.declared.layouts.Class.{Class}

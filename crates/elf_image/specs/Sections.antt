@@ -51,7 +51,7 @@ is_name (Some text) name = bytes_eq text name
 abbrev pub has_name : List ℕ → List ℕ → SectionHeader → Bool
 has_name names name section = is_name (name_at names section.name) name
 
--- where a section is to stand in memory, and where its bytes stand in the image (TIS ELF 1.2, "Sections")
+-- where a section is to be in memory, and where its bytes are in the image (TIS ELF 1.2, "Sections")
 abbrev pub section_place : SectionHeader → Section
 section_place section = record { address = section.address; offset = section.offset; size = section.size }
 

@@ -76,7 +76,7 @@ pub(crate) struct NumberedHeader {
 pub(crate) struct SectionHeader {
     /// `sh_name`, where the name begins in the section of names.
     pub(crate) name: u32,
-    /// `sh_addr`, where the section is to stand in memory.
+    /// `sh_addr`, where the section is to be in memory.
     pub(crate) address: u64,
     /// `sh_offset`, where the bytes begin in the image.
     pub(crate) offset: u64,
@@ -117,7 +117,7 @@ pub(crate) fn ends_past(start: u64, len: u64, total: usize) -> bool
 }
 
 impl FileHeader {
-    /// Reads the header at the front of an image.
+    /// Reads the header at the start of an image.
     #[tactic(auto, unfolding(crate::specs::Headers::file_header))]
     pub(crate) fn read(bytes: &[u8], class: Class) -> FileHeader
         requires { (layout_for class).header_size ≤ length bytes.now }

@@ -19,7 +19,7 @@ pub(crate) struct Field {
     pub(crate) width: usize,
 }
 
-/// Where the headers of a class of images and their fields stand: the sizes of the three headers, and
+/// Where the headers of a class of images and their fields are: the sizes of the three headers, and
 /// the fields that are read, by their names in the System V ABI.
 #[derive(Clone, Copy)]
 pub(crate) struct Layout {

@@ -15,7 +15,7 @@ pub struct Segment<'a> {
     pub da: Da,
     /// How many bytes of memory it has, `p_memsz`.
     pub memory_len: u32,
-    /// The bytes that are copied to the front of its memory, of which the rest is zeros.
+    /// The bytes that are copied to the start of its memory, of which the rest is zeros.
     pub file: &'a [u8],
     pub ghost file_fits: { length file.now ≤ memory_len },
 }

@@ -7,10 +7,10 @@ use crate::faults::ElfFault;
 use crate::headers::{FileHeader, ends_past};
 use crate::layouts::Class;
 
-/// A section: where its bytes stand in the image, which may be past its end, and where in memory.
+/// A section: where its bytes are in the image, which may be past its end, and where in memory.
 #[derive(Clone, Copy, Debug, PartialEq, Eq)]
 pub struct Section {
-    /// Where it is to stand in memory, `sh_addr`; 0 where it is not to.
+    /// Where it is to be in memory, `sh_addr`; 0 where it is not to.
     pub address: u64,
     /// Where its bytes begin in the image, `sh_offset`.
     pub offset: u64,

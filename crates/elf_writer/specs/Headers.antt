@@ -6,7 +6,7 @@ use Rattle.elf_writer.specs.Fields.{half_field, word_fields}
 abbrev pub identification : List ℕ
 identification = 0x7f ∷ 0x45 ∷ 0x4c ∷ 0x46 ∷ 1 ∷ 1 ∷ 1 ∷ 0 ∷ 0 ∷ 0 ∷ 0 ∷ 0 ∷ 0 ∷ 0 ∷ 0 ∷ 0 ∷ []
 
--- the ELF header: the type of the file, EM_ARM, the entry, program headers behind this header, the place, size and number of
+-- the ELF header: the type of the file, EM_ARM, the entry, program headers after this header, the place, size and number of
 -- section headers, and the number of that of the names
 unfoldable pub file_header : ℕ → ℕ → ℕ → ℕ → ℕ → ℕ → ℕ → List ℕ
 file_header kind entry segments place size sections names =

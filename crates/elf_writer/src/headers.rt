@@ -35,7 +35,7 @@ pub fn put_file_header(
     put_half(out, names)
 }
 
-/// Appends the program header of a loaded segment: where its bytes stand in the image, its address,
+/// Appends the program header of a loaded segment: where its bytes are in the image, its address,
 /// how many bytes it has there, and how many in memory.
 pub fn put_load_header(
     out: &mut Vec<u8>,

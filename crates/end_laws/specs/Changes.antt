@@ -48,7 +48,7 @@ pub record KeepsChannels (before after : EndState) : Type 0 where
   pub drivers : after.drivers ≡ before.drivers
   pub channels : after.channels ≡ before.channels
 
--- this channel is new and stands behind the others; its endpoint, if it has one, is new too, and counts its own message as handed over
+-- this channel is new and comes after the others; its endpoint, if it has one, is new too, and counts its own message as handed over
 pub record CreatesChannel (before after : EndState) (number : ℕ) (channel : Channel) : Type 0 where
   pub service : after.has_service ≡ before.has_service
   pub drivers : after.drivers ≡ before.drivers

@@ -72,7 +72,7 @@ place_of address bound = prefix_len (λ b. nat_lt b.endpoint.address address) bo
 abbrev pub with_endpoint : BoundEndpoint → List BoundEndpoint → List BoundEndpoint
 with_endpoint one bound = insert bound (place_of one.endpoint.address bound) one
 
--- what stands after a binding, when `since` messages had been handed over: a refused one changes nothing
+-- what is left after a binding, when `since` messages had been handed over: a refused one changes nothing
 abbrev pub after_bind : Bindings → ℕ → ℕ → Bindings
 after_bind bindings asked since =
     if is_bound bindings (address_for bindings asked) || is_full bindings
@@ -86,7 +86,7 @@ after_bind bindings asked since =
 abbrev pub unbind_answer : Bindings → ℕ → Result Endpoint BindFault
 unbind_answer bindings address = ok_or (option_map endpoint_of (bound_at bindings address)) (NotBound address)
 
--- what stands after an unbinding (idr_remove in __rpmsg_destroy_ept)
+-- what is left after an unbinding (idr_remove in __rpmsg_destroy_ept)
 abbrev pub after_unbind : Bindings → ℕ → Bindings
 after_unbind bindings address =
     record { bound = filter (λ b. not (is_at address b)) bindings.bound; count = bindings.count }
@@ -95,7 +95,7 @@ after_unbind bindings address =
 abbrev pub IsAscending : List BoundEndpoint → Type 0
 IsAscending bound = AllPairs (λ b c. b.endpoint.address < c.endpoint.address) bound
 
--- the place among ascending addresses where a new one goes: behind all lower ones and before all higher ones
+-- the place among ascending addresses where a new one goes: after all lower ones and before all higher ones
 pub record IsPlace (address : ℕ) (bound : List BoundEndpoint) (place : ℕ) : Type 0 where
   pub within : place ≤ length bound
   pub lower : AllWithin (λ b. b.endpoint.address < address) bound 0 place

@@ -37,7 +37,7 @@ impl Model for Endpoints {
 impl Endpoints {
     /// No endpoint, with room for 256.
     ///
-    /// Errors: only for want of memory.
+    /// Errors: only if memory runs out.
     pub fn new(alloc: Global) -> Result<Endpoints, NoMemory>
         ensures { IfOk result (λ endpoints. endpoints ≡ no_bindings) }
     {

@@ -8,7 +8,7 @@ use Rattle.memory_pool.specs.declared.faults.PlaceFault.TheVariants as place
 use Rattle.fw_load.specs.declared.faults.LoadFault.{LoadFault}
 use Rattle.fw_load.specs.declared.faults.LoadFault.TheVariants as fault
 
--- a refusal of a placement, of which want of memory is one of the load (own)
+-- a refusal of a placement, of which out of memory is one of the load (own)
 abbrev pub of_place : PlaceFault → LoadFault
 of_place place.NoMemory = fault.NoMemory
 of_place refused = fault.Place refused

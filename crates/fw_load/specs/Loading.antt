@@ -35,7 +35,7 @@ abbrev pub mapped_fault : List ℕ → List Region → List Block → Option Loa
 mapped_fault image regions placed = first_fault
     (segments_unmapped (memory_at regions placed) (segments_of image) ∷ entry_unmapped (memory_at regions placed) (entry_of image) ∷ [])
 
--- the tests behind the placement, or its refusal (own)
+-- the tests after the placement, or its refusal (own)
 abbrev pub placed_fault : List ℕ → List Region → Result (List Block) PlaceFault → Option LoadFault
 placed_fault image regions (Err refused) = Some (fault.Place refused)
 placed_fault image regions (Ok placed) = mapped_fault image regions placed

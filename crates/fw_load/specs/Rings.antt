@@ -48,7 +48,7 @@ pair_from placed index (entry.Device device ∷ more) =
     if device.id == 7 then Some (pair_of placed index device) else pair_from placed (index + 1) more
 pair_from placed index (other ∷ more) = pair_from placed (index + 1) more
 
--- the trace of an entry, and where its bytes stand in the core's memory: it has some, and one block of memory holds them (struct fw_rsc_trace)
+-- the trace of an entry, and where its bytes are in the core's memory: it has some, and one block of memory holds them (struct fw_rsc_trace)
 abbrev pub trace_of : (ℕ → ℕ → Option ℕ) → Entry → Option TraceAt
 trace_of at (entry.Trace da len name) = Some (record { at = if len == 0 then None else at da len; len = len })
 trace_of at _ = None

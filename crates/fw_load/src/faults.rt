@@ -7,7 +7,7 @@ use resource_table::TableFault;
 use rp_base::NoMemory;
 use thiserror::Error;
 
-/// Why an image is not loaded. Each but want of memory is written as the word `fault`, a space and its
+/// Why an image is not loaded. Each but out of memory is written as the word `fault`, a space and its
 /// number.
 #[derive(Clone, Copy, Debug, PartialEq, Eq, Error)]
 pub enum LoadFault {
@@ -32,7 +32,7 @@ pub enum LoadFault {
 }
 
 impl LoadFault {
-    /// The number of the fault, from 1 to 41, and none for want of memory.
+    /// The number of the fault, from 1 to 41, and none for out of memory.
     pub fn number(self) -> Option<u8>
         ensures { result ≡ load_fault_number self }
     {

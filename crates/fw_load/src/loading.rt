@@ -59,7 +59,7 @@ pub fn load(alloc: Global, image: &[u8], regions: &Regions) -> Result<Loaded, Lo
 
 /// Loads an image that was read from these bytes.
 ///
-/// Errors: as those of [`load`] behind the test of the image.
+/// Errors: as those of [`load`] after the test of the image.
 pub fn load_image(
     alloc: Global,
     bytes: &[u8],

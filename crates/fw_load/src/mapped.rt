@@ -65,7 +65,7 @@ pub(crate) fn copy_segments(memory: &mut CoreMemory, map: &Map, image: &Image<'_
     }
 }
 
-/// Copies a segment to a place: its bytes in the image, and zeros behind them.
+/// Copies a segment to a place: its bytes in the image, and zeros after them.
 fn copy_segment(memory: &mut CoreMemory, at: u32, segment: &Segment<'_>)
     requires inside { at + segment.now.memory_len ≤ length memory.old }
     requires fits { length segment.now.file.now ≤ segment.now.memory_len }
@@ -78,7 +78,7 @@ fn copy_segment(memory: &mut CoreMemory, at: u32, segment: &Segment<'_>)
     memory.fill(at + len, segment.memory_len - len, 0);
 }
 
-/// Where the memory of a section stands, if one block of memory holds it whole.
+/// Where the memory of a section is, if one block of memory holds it whole.
 fn section_at(map: &Map, section: &Section) -> Option<u32>
     requires some { 1 ≤ section.now.size }
     requires sound { SoundMap map.now.blocks map.now.memory_len }
@@ -92,7 +92,7 @@ fn section_at(map: &Map, section: &Section) -> Option<u32>
     map.memory_at(section.address as Da, section.size as u32)
 }
 
-/// Copies a table to where its section is to stand, if one block of memory holds it whole there.
+/// Copies a table to where its section is to be, if one block of memory holds it whole there.
 pub(crate) fn copy_table(memory: &mut CoreMemory, map: &Map, section: Option<Section>, table: &[u8])
     requires length { length memory.old ≡ map.now.memory_len }
     requires sound { SoundMap map.now.blocks map.now.memory_len }

@@ -11,7 +11,7 @@ use std::alloc::Global;
 /// A trace of a firmware, a text that it writes.
 #[derive(Clone, Copy)]
 pub struct TraceAt {
-    /// Where its bytes stand in the core's memory: there is a place exactly where it has bytes, and
+    /// Where its bytes are in the core's memory: there is a place exactly where it has bytes, and
     /// one block of memory holds them all.
     pub at: Option<u32>,
     /// How many bytes it has.
@@ -50,7 +50,7 @@ fn trace_of(map: &Map, entry: &Entry) -> Option<TraceAt>
     }
 }
 
-/// Where a range of device addresses stands in the core's memory, if it is not empty and one block of
+/// Where a range of device addresses is in the core's memory, if it is not empty and one block of
 /// memory holds it whole.
 fn place_of(map: &Map, da: Da, len: u32) -> Option<u32>
     ensures place { result ≡ (if len == 0 then None else place_at map.now da len) }

@@ -42,7 +42,7 @@ probe_message Sink one = None
 probe_message Echo one = None
 probe_message Sample one = Some (message_from one one.channel sample_text)
 
--- the endpoint, once one more message is delivered to it; the count stands still at its end (own)
+-- the endpoint, once one more message is delivered to it; the count stays at its end (own)
 abbrev pub with_delivery : DrivenEndpoint → DrivenEndpoint
 with_delivery one = record one { deliveries = min (one.deliveries + 1) (2 ^ 64 - 1) }
 
@@ -111,7 +111,7 @@ abbrev pub driven_by : Option DriverKind → Endpoint → ℕ → List DrivenEnd
 driven_by None endpoint channel driven = driven
 driven_by (Some kind) endpoint channel driven = with_one (newly_driven kind endpoint channel) (without endpoint driven)
 
--- what stands then: the endpoint is driven, if it gets a driver
+-- what is left then: the endpoint is driven, if it gets a driver
 abbrev pub after_created : DriversState → List ℕ → Endpoint → ℕ → DriversState
 after_created drivers name endpoint channel =
     record drivers { driven = driven_by (kind_for drivers name) endpoint channel drivers.driven }
@@ -121,20 +121,20 @@ abbrev pub delivered_answer : DriversState → Endpoint → List ℕ → Option 
 delivered_answer drivers endpoint message =
     option_and_then (λ one. reply_to one.kind (with_delivery one) message) (driven_at endpoint drivers.driven)
 
--- what stands then: the delivery is counted at its endpoint
+-- what is left then: the delivery is counted at its endpoint
 abbrev pub after_delivered : DriversState → Endpoint → DriversState
 after_delivered drivers endpoint =
     record drivers { driven = map (λ one. if drives endpoint one then with_delivery one else one) drivers.driven }
 
--- what stands once an endpoint is unbound (rpmsg_dev_remove of rpmsg_core.c)
+-- what is left once an endpoint is unbound (rpmsg_dev_remove of rpmsg_core.c)
 abbrev pub after_destroyed : DriversState → Endpoint → DriversState
 after_destroyed drivers endpoint = record drivers { driven = without endpoint drivers.driven }
 
--- what stands after a reset
+-- what is left after a reset
 abbrev pub after_reset : DriversState → DriversState
 after_reset drivers = record drivers { driven = [] }
 
--- why one driver more is not declared, if want of memory is not why (own)
+-- why one driver more is not declared, if out of memory is not why (own)
 abbrev pub driver_fault : List Declared → List ℕ → Option DriverFault
 driver_fault kinds name =
     if is_some (kind_of name kinds)

@@ -49,7 +49,7 @@ impl Drivers {
     /// These drivers, by the names of their channels, with room for 256 endpoints. Nothing is
     /// driven.
     ///
-    /// Errors: only for want of memory.
+    /// Errors: only if memory runs out.
     pub fn new(alloc: Global, kinds: Vec<(Name, DriverKind)>) -> Result<Drivers, NoMemory>
         ensures { IfOk result (λ drivers. drivers ≡ record { kinds = kinds.items; driven = [] }) }
     {
@@ -59,7 +59,7 @@ impl Drivers {
         })
     }
 
-    /// Declares one driver more, behind the others.
+    /// Declares one driver more, after the others.
     ///
     /// Errors, in this order: one of this name is declared; there are sixteen; memory ran out.
     /// Then all is as before.
@@ -83,7 +83,7 @@ impl Drivers {
 
     /// The names of the declared drivers, in the order in which they were declared.
     ///
-    /// Errors: only for want of memory.
+    /// Errors: only if memory runs out.
     pub fn names(&self, alloc: Global) -> Result<Vec<Name>, NoMemory>
         ensures { IfOk result (λ names. names.items ≡ map (λ declared. declared.0) self.now.kinds) }
     {
@@ -128,7 +128,7 @@ impl Drivers {
     }
 
     /// The same of a message of these bytes: whether its driver sends something. The answer is what it
-    /// sends then; what stands there otherwise counts for nothing.
+    /// sends then; what is there otherwise counts for nothing.
     pub fn reply(&mut self, endpoint: Endpoint, message: &[u8], answer: &mut Message) -> bool
         requires { length message.now ≤ MESSAGE_MOST }
         ensures sent { (if result then Some answer.new else None) ≡ delivered_answer self.old endpoint message.now }

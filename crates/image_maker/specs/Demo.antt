@@ -11,7 +11,7 @@ use Rattle.script_lang.specs.declared.commands.RegionSet.TheVariants as regions
 use Rattle.script_lang.specs.declared.recipes.RecipeLine.{RecipeLine}
 use Rattle.script_lang.specs.declared.recipes.RecipeLine.TheVariants as recipe
 
--- the number behind x in the sequence of pseudo-random numbers (the factor and the summand are those of ISO C's example of rand; the modulus
+-- the number after x in the sequence of pseudo-random numbers (the factor and the summand are those of ISO C's example of rand; the modulus
 -- is own)
 abbrev pub next_number : ℕ → ℕ
 next_number x = (x * 1103515245 + 12345) % 2147483648

@@ -13,7 +13,7 @@ use Rattle.image_maker.specs.Segments.{code_of, segments_of, segment_count}
 use Rattle.image_maker.specs.Tables.{table_len, table_bytes}
 use Rattle.image_maker.specs.Images.{entry_address, table_address, data_end, image_of}
 
--- the segment that a line is, by the bytes of the records behind it and its number; one without memory is not loaded
+-- the segment that a line is, by the bytes of the records after it and its number; one without memory is not loaded
 abbrev pub segment_of : List ℕ → ℕ → RecipeLine → List SegmentAt
 segment_of code index (recipe.Load da bytes memory_len) =
     if memory_len == 0 then [] else record { index = index; da = da; memory_len = memory_len; file = bytes } ∷ []

@@ -37,7 +37,7 @@ is_record (recipe.Crash kind) = true
 is_record (recipe.Loop times target) = true
 is_record line = false
 
--- how many records follow one another at the front of these lines
+-- how many records follow one another at the start of these lines
 abbrev pub records_in_front : List RecipeLine → ℕ
 records_in_front lines = prefix_len is_record lines
 
@@ -52,13 +52,13 @@ segments_of (recipe.Load da bytes memory_len) = 1
 segments_of (recipe.Code da) = 1
 segments_of line = 0
 
--- the program header of a line whose bytes stand at a place of the image. A code has the bytes of the records behind it, whose number is given
+-- the program header of a line whose bytes are at a place of the image. A code has the bytes of the records after it, whose number is given
 abbrev pub program_header : ℕ → ℕ → RecipeLine → List ℕ
 program_header code offset (recipe.Load da bytes memory_len) = load_header offset da (length bytes) memory_len
 program_header code offset (recipe.Code da) = load_header offset da code code
 program_header code offset line = []
 
--- the program headers of these lines, whose bytes stand from a place of the image on, without gaps
+-- the program headers of these lines, whose bytes lie from a place of the image on, without gaps
 abbrev pub program_headers : ℕ → List RecipeLine → List ℕ
 program_headers offset [] = []
 program_headers offset (line ∷ more) =

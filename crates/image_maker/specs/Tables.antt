@@ -41,7 +41,7 @@ entry_len (recipe.Vring da align entries) = 20
 entry_len (recipe.Vendor type) = 4
 entry_len line = 0
 
--- the vrings that follow one another at the front of these lines
+-- the vrings that follow one another at the start of these lines
 abbrev pub rings_in_front : List RecipeLine → ℕ
 rings_in_front lines = prefix_len is_vring lines
 
@@ -54,7 +54,7 @@ entries (line ∷ more) = entry_bytes (rings_in_front more) line ++ entries more
 abbrev pub offset_of : ℕ → RecipeLine → List ℕ
 offset_of offset line = if entries_of line == 1 then word_field offset else []
 
--- the offsets of the entries, which stand from a place of the table on
+-- the offsets of the entries, which lie from a place of the table on
 abbrev pub offsets : ℕ → List RecipeLine → List ℕ
 offsets offset [] = []
 offsets offset (line ∷ more) = offset_of offset line ++ offsets (offset + entry_len line) more

@@ -25,14 +25,14 @@ pub(crate) fn is_record(line: &RecipeLine) -> bool
     )
 }
 
-/// How many records stand at the front.
+/// How many records are at the start.
 fn records_in_front(lines: &[RecipeLine]) -> usize
     ensures { result ≡ records_in_front lines.now }
 {
     lines.iter().take_while(|line| is_record(line)).count()
 }
 
-/// How many bytes the records at the front have.
+/// How many bytes the records at the start have.
 #[tactic(auto, using(crate::proofs::CodeBytes::length_code))]
 pub(crate) fn code_len(lines: &[RecipeLine]) -> Result<u64, NoMemory>
     ensures { IfOk result (λ len. len ≡ length (code_of lines.now)) }

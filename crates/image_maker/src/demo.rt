@@ -22,7 +22,7 @@ const FIRST_RECORDS: &[u8] =
 const LAST_RECORDS: &[u8] =
     b"\nloop 100 2\nhalt\nload 0x200 72706d73672d636c69656e742d73616d706c65 32\nload 0x400 ";
 
-/// The lines behind the bytes of the replies.
+/// The lines after the bytes of the replies.
 const TABLE: &[u8] = b" 496\ntable 0x300\nvdev 7 1\nvring any 4096 16\nvring any 4096 16\nend\n";
 
 /// The text of the script of a demo of 1 to 500 sessions. Each boots one of eight cores with an

@@ -19,7 +19,7 @@ const ET_EXEC: u64 = 2;
 
 /// The image that a recipe says.
 ///
-/// Errors: only for want of memory; no length of a recipe of a script passes 64 bits, see
+/// Errors: only if memory runs out; no length of a recipe of a script passes 64 bits, see
 /// [`laws::lengths_fit`].
 ///
 /// [`laws::lengths_fit`]: crate::laws::lengths_fit
@@ -99,7 +99,7 @@ fn put_segments(out: &mut Vec<u8>, lines: &[RecipeLine]) -> Result<(), NoMemory>
     Ok(())
 }
 
-/// Appends the program headers of these lines, whose bytes stand from a place of the image on.
+/// Appends the program headers of these lines, whose bytes lie from a place of the image on.
 fn put_program_headers(out: &mut Vec<u8>, lines: &[RecipeLine], start: u64) -> Result<(), NoMemory>
     ensures { OnOk result (out.new.items ≡ out.old.items ++ program_headers start lines.now) }
 {
@@ -146,7 +146,7 @@ fn put_data(out: &mut Vec<u8>, lines: &[RecipeLine]) -> Result<(), AllocError>
     Ok(())
 }
 
-/// Appends three section headers: none, the table's, and that of the names behind the table.
+/// Appends three section headers: none, the table's, and that of the names after the table.
 fn put_section_headers(out: &mut Vec<u8>, da: u64, start: u64, len: u64) -> Result<(), NoMemory>
     ensures { OnOk result (out.new.items ≡ out.old.items ++ section_headers da start len) }
 {

@@ -113,7 +113,7 @@ pub(crate) fn entries_len(lines: &[RecipeLine]) -> Result<u64, NoMemory>
     Ok(len)
 }
 
-/// How many vrings stand at the front.
+/// How many vrings are at the start.
 pub(crate) fn rings_in_front(lines: &[RecipeLine]) -> usize
     ensures { result ≡ rings_in_front lines.now }
 {

@@ -20,7 +20,7 @@ pub(crate) fn put_table(out: &mut Vec<u8>, lines: &[RecipeLine]) -> Result<(), N
     Ok(())
 }
 
-/// Appends the offsets of the entries, which stand from a place of the table on.
+/// Appends the offsets of the entries, which lie from a place of the table on.
 fn put_offsets(out: &mut Vec<u8>, lines: &[RecipeLine], start: u64) -> Result<(), NoMemory>
     ensures { OnOk result (out.new.items ≡ out.old.items ++ offsets start lines.now) }
 {
@@ -83,7 +83,7 @@ fn put_entry(out: &mut Vec<u8>, line: &RecipeLine, more: &[RecipeLine]) -> Resul
     }
 }
 
-/// Appends a name with zeros behind it, 32 bytes in all.
+/// Appends a name with zeros after it, 32 bytes in all.
 fn put_name(out: &mut Vec<u8>, name: &Name) -> Result<(), AllocError>
     ensures { OnOk result (out.new.items ≡ out.old.items ++ padded_name name.now) }
 {

@@ -37,7 +37,7 @@ entry_rows index (entry.Trace da len name) available = trace_row index da len na
 entry_rows index (entry.Device device) available = device_rows index device
 entry_rows index (entry.Skipped kind) available = row.Skipped index kind ∷ []
 
--- the traces behind those of an entry
+-- the traces after those of an entry
 abbrev pub traces_behind : Entry → List TraceAt → List TraceAt
 traces_behind (entry.Trace da len name) traces = drop 1 traces
 traces_behind _ traces = traces

@@ -25,7 +25,7 @@ pub struct ImageReport {
 /// The report of an image over the standard regions of a core: its entry, its loaded segments and the lines
 /// of its table where it loads, and else the number and the index of its first fault.
 ///
-/// Errors: only for want of memory.
+/// Errors: only if memory runs out.
 #[tactic(auto, unfolding(crate::specs::Reports::image_report))]
 pub fn report_image(alloc: Global, bytes: &[u8]) -> Result<ImageReport, NoMemory>
     ensures { IfOk result (λ report. IsImageReport report (image_report bytes.now)) }
@@ -43,7 +43,7 @@ pub fn report_image(alloc: Global, bytes: &[u8]) -> Result<ImageReport, NoMemory
 
 /// The report of an image that doesn't load, which is this one line.
 ///
-/// Errors: only for want of memory.
+/// Errors: only if memory runs out.
 pub fn refuse(alloc: Global, notice: Notice) -> Result<ImageReport, NoMemory>
     ensures { IfOk result (λ report. IsImageReport report (refusal notice)) }
 {

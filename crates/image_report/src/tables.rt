@@ -9,7 +9,7 @@ use std::alloc::Global;
 
 /// The lines about the entries of a patched resource table, whose traces are these in order.
 ///
-/// Errors: only for want of memory.
+/// Errors: only if memory runs out.
 pub fn table_rows(
     alloc: Global,
     table: &PatchedTable,
@@ -30,7 +30,7 @@ pub fn table_rows(
     Ok(rows)
 }
 
-/// The traces behind those of an entry.
+/// The traces after those of an entry.
 fn traces_behind<'a>(entry: &Entry, traces: &'a [TraceAt]) -> &'a [TraceAt]
     ensures { result.now ≡ traces_behind entry.now traces.now }
 {

@@ -3,7 +3,7 @@ use rp_base::{
     CrashKind, Da, Data, DriverKind, End, Endpoint, Era, LifeState, Name, NsKind, Switch,
 };
 
-/// What a run tells: one line of the transcript. The first field of most is the name of the link or
+/// What a run writes: one line of the transcript. The first field of most is the name of the link or
 /// the core, and the second of those of a call is the number of its caller.
 #[derive(Drop)]
 pub enum Event {

@@ -5,7 +5,7 @@ ghost use Rattle.word_kinds.specs.Lines.{word_of};
 use crate::table::Form;
 use word_kinds::Piece;
 
-/// The form of a line, and in their order what stands in its places without a fixed word, in front
+/// The form of a line, and in their order what is in its places without a fixed word, in front
 /// of empty words.
 #[derive(Clone, Copy, Drop)]
 pub(crate) struct Fields<'a> {

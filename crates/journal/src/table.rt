@@ -16,7 +16,7 @@ use word_kinds::{
     trace_at,
 };
 
-/// The form of a line: its fixed words, and what stands in the other places.
+/// The form of a line: its fixed words, and what is in the other places.
 #[derive(Clone, Copy, Drop)]
 pub(crate) enum Form {
     Unknown,
@@ -110,7 +110,7 @@ pub(crate) enum Form {
 }
 
 /// The table of the lines, an entry for each form: its event, and the words of its line in their
-/// order, each a fixed word or a kind with the field that stands there. What follows goes by it, as
+/// order, each a fixed word or a kind with the field that is there. What follows goes by it, as
 /// rules over the entries. Lines that begin with `*` come first, and those with a number in the
 /// second place last, since a name may be any other fixed word.
 macro_rules! with_lines {
@@ -282,7 +282,7 @@ macro_rules! all_forms {
     ($($form:ident: $event:tt [$($word:tt)+];)+) => { [$(Form::$form),+] };
 }
 
-/// What stands in the place of a word of the table.
+/// What is in the place of a word of the table.
 macro_rules! slot {
     ((Row $most:literal $field:ident)) => { Slot::Row($most) };
     ((Inc $field:ident)) => { Slot::Number };
@@ -298,7 +298,7 @@ macro_rules! slots_by_form {
 }
 
 /// The fields of an event with the form of its line: each as the piece of its kind, and the fixed
-/// words left out. The rule of the counts tells how many there are.
+/// words left out. The rule of the counts says how many there are.
 macro_rules! fields {
     ($form:ident [] [zero $($more:ident)+]) => {
         Fields { form: Form::$form, values: [$(empty!($more)),+] }
@@ -314,7 +314,7 @@ macro_rules! fields {
     };
 }
 
-/// What stands in a place that no field needs.
+/// What is in a place that no field needs.
 macro_rules! empty {
     ($count:ident) => { Piece::Fixed("") };
 }
@@ -396,7 +396,7 @@ macro_rules! event_by_form {
 /// All forms, in the order of the table.
 const FORMS: [Form; 88] = with_lines!(all_forms);
 
-/// What stands in the places of a line of this form.
+/// What is in the places of a line of this form.
 pub(crate) fn slots(form: Form) -> &'static [Slot<'static>]
     ensures { map kind_in result.now ≡ kinds form }
 {
@@ -424,7 +424,7 @@ pub(crate) fn event_in(alloc: Global, form: Form, words: &[&[u8]]) -> Result<Eve
     with_lines!(event_by_form (form words alloc))
 }
 
-/// The incarnation whose number stands in a place, modulo 2^32.
+/// The incarnation whose number is in a place, modulo 2^32.
 fn inc_at(words: &[&[u8]], place: usize) -> u32
     ensures { result ≡ number_read (text_at (map (λ word. word.now) words.now) place) % 2 ^ 32 }
 {

@@ -21,7 +21,7 @@ pub record RingWay (D : Type 0) : Type 0 where
   pub lives : List (List Move)
   pub moves : List Move
 
--- the link after whole incarnations, each with the reopening behind it
+-- the link after whole incarnations, each with the reopening after it
 abbrev pub after_lives : {D : Type 0} → DeskMeaning D → LaneLink (RingState D) → List (List Move) → LaneLink (RingState D)
 after_lives desk link [] = link
 after_lives desk link (moves ∷ lives) = after_lives desk (link_after_reopen (ring_form desk) (form_moves (ring_form desk) desk link moves)) lives

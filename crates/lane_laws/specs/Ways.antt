@@ -17,7 +17,7 @@ pub record Way (D : Type 0) : Type 0 where
   pub start : LinkState D
   pub moves : List Move
 
--- a way with these moves behind its own
+-- a way with these moves after its own
 abbrev pub way_on : {D : Type 0} → Way D → List Move → Way D
 way_on way more = record way { moves = way.moves ++ more }
 

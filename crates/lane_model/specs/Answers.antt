@@ -35,7 +35,7 @@ wish_of (ask.Give held) = wish.Give held.number
 wish_of (ask.Bind address) = wish.Bind address
 wish_of (ask.Unbind address) = wish.Unbind address
 
--- a buffer of the lane that callers of this end take from, in the hands of a caller; a link doesn't tell the number of a buffer, which is 0 here
+-- a buffer of the lane that callers of this end take from, in the hands of a caller; a link doesn't say the number of a buffer, which is 0 here
 abbrev pub held_buffer : {D : Type 0} → LinkState D → End → ℕ → ℕ → HeldBuffer
 held_buffer link end caller number = record {
   lane = incoming_number end;

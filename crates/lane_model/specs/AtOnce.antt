@@ -51,7 +51,7 @@ took_next desk state =
     let number = length state.lane.takers in
     call_end.Took number (desk.verdict state.desk number (message_at state.lane.accepted number))
 
--- how many steps are behind the first one of a call that is refused nowhere
+-- how many steps are after the first one of a call that is refused nowhere
 abbrev pub steps_behind : Wish → ℕ
 steps_behind (wish.Send message) = 6
 steps_behind wish.Take = 5
@@ -59,7 +59,7 @@ steps_behind (wish.Give number) = 3
 steps_behind (wish.Bind address) = 2
 steps_behind (wish.Unbind address) = 2
 
--- a call ends, and leaves this link, with exactly so many steps behind the next one, on a link with lanes of some form
+-- a call ends, and leaves this link, with exactly so many steps after the next one, on a link with lanes of some form
 unfoldable pub FormEndsIn : {L D : Type 0} → ℕ → FormMeaning L D → DeskMeaning D → LaneLink L → ℕ → ℕ → Option Wish → LaneLink L → CallEnd → Type 0
 FormEndsIn zero form desk link caller follows wished left end =
     let step = form_step form desk link caller follows wished in
@@ -68,6 +68,6 @@ FormEndsIn (suc more) form desk link caller follows wished left end =
     let step = form_step form desk link caller follows wished in
     (number : ℕ) × (step.outcome ≡ outcome.At number) × FormEndsIn more form desk step.state caller 0 None left end
 
--- a call ends with exactly so many steps behind the next one
+-- a call ends with exactly so many steps after the next one
 abbrev pub EndsIn : {D : Type 0} → ℕ → DeskMeaning D → LinkState D → ℕ → ℕ → Option Wish → LinkState D → CallEnd → Type 0
 EndsIn more desk link caller follows wished left end = FormEndsIn more (list_form desk) desk link caller follows wished left end

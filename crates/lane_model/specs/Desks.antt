@@ -1,4 +1,4 @@
--- What stands behind a receiver's turn: the endpoints of that end, and what becomes of a message (Linux drivers/rpmsg/virtio_rpmsg_bus.c).
+-- What goes with a receiver's turn: the endpoints of that end, and what becomes of a message (Linux drivers/rpmsg/virtio_rpmsg_bus.c).
 use Rattle.std.specs.Prelude.{◌≡◌, ◌≢◌, ℕ, ◌+◌, ◌==◌, ◌⊎◌, List, [], find, Option, Some, None, Result, Ok}
 use Rattle.std.specs.Option.{option_map, option_and_then}
 use Rattle.rp_base.specs.declared.kinds.Endpoint.{Endpoint}

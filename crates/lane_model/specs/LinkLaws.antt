@@ -1,4 +1,4 @@
--- That a link which tells its state tells which steps may be taken.
+-- That a link which says its state says which steps may be taken.
 use Rattle.std.specs.Prelude.{◌≡◌, ℕ, Option, Some}
 use Rattle.std.specs.Option.{unwrap_or}
 use Rattle.std.proofs.Common.{sym, ap, subst}

@@ -1,4 +1,4 @@
--- A call from where it stands to its end, and how many steps may still follow (own).
+-- A call from where it is to its end, and how many steps may still follow (own).
 use Rattle.std.specs.Prelude.{ℕ, zero, suc, if◌then◌else◌, Option, Some, None}
 use Rattle.std.specs.Option.{option_map_or}
 use Rattle.lane_model.specs.declared.states.LaneState.{LaneState}

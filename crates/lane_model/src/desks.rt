@@ -3,7 +3,7 @@ ghost use Rattle.lane_model.specs.Desks.{DeskMeaning, AreDeskLaws};
 
 use rp_base::{BindFault, Endpoint, Message, Verdict};
 
-/// What stands behind a receiver's turn: it judges each message that is handed over, and keeps the
+/// What goes with a receiver's turn: it judges each message that is handed over, and keeps the
 /// endpoints of its end. None of its calls takes memory.
 pub trait Desk: Drop {
     /// What each call answers and leaves, as functions of the desk.

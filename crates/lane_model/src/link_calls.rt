@@ -138,7 +138,7 @@ impl<L: LaneForm> Link for LaneLink<L> {
 }
 
 /// The buffer of the message of a number with these bytes, in the hands of a caller. A link doesn't
-/// tell the number of a buffer to who holds it, which is 0 here.
+/// say the number of a buffer to who holds it, which is 0 here.
 fn buffer_of(lane: u8, caller: CallerNo, number: u64, bytes: Option<&[u8]>) -> Held
     requires { IfSome bytes (λ found. length found.now ≤ MESSAGE_MOST) }
     ensures { result ≡ record { lane = lane; caller = caller; number = number; buffer = 0; message = unwrap_or (option_map (λ found. found.now) bytes.entry) [] } }

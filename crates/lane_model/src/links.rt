@@ -5,7 +5,7 @@ ghost use Rattle.lane_model.specs.Answers.{MayAsk, steps_to_answer};
 use crate::calls::{Answer, Ask, Progress};
 use crate::desks::Desk;
 
-/// A link between two processors, whichever way it is kept. A form may tell its state or not; where
+/// A link between two processors, whichever way it is kept. A form may say its state or not; where
 /// it does, `advance` is exact by the lane machine.
 pub trait Link {
     ghost use Rattle.std.specs.Prelude.{◌≡◌, ℕ, Option, Some, None, IfSome};
@@ -19,10 +19,10 @@ pub trait Link {
     /// A call from its beginning to its end.
     type Call: Drop;
 
-    /// What stands behind the receivers' turns.
+    /// What goes with the receivers' turns.
     type Desk: Desk;
 
-    /// The state of the link, where the form tells it.
+    /// The state of the link, where the form says it.
     ghost state: { Self → Option (LinkState Self.Desk) };
 
     /// The number of the caller who shows a pass.
@@ -51,12 +51,12 @@ pub trait Link {
         ensures call { IfSome (state self.old) (λ _. (follows call.new ≡ follows call.old) × (asked call.new ≡ None)) }
         ensures pass { IfSome (state self.old) (λ _. pass.new ≡ pass.old) };
 
-    /// Where the form tells its state, that state says which step is the next.
+    /// Where the form says its state, that state says which step is the next.
     ghost leads: { (link : Self) (pass : Self.Pass) (call : Self.Call) (told : LinkState Self.Desk)
         → state link ≡ Some told → MayAsk told (number pass) (asked call) → may link pass call };
 }
 
-/// Makes a whole call through a link that tells its state.
+/// Makes a whole call through a link that says its state.
 pub fn make_call<L: Link>(link: &mut L, pass: &mut L::Pass, ask: Ask) -> Answer
     requires { (told : LinkState L.Desk) × (L.state link.old ≡ Some told) × MayAsk told (L.number pass.old) (Some ask) }
     ensures { (told : LinkState L.Desk) → L.state link.old ≡ Some told → (left : LinkState L.Desk) × (L.state link.new ≡ Some left)

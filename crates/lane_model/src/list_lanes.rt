@@ -122,7 +122,7 @@ impl<D: Desk> ListLane<D> {
         holder(&self.sender)
     }
 
-    /// The desk behind the receiver's turn.
+    /// The desk that goes with the receiver's turn.
     pub fn desk(&self) -> &D
         ensures { result.now ≡ self.now.desk }
     {

@@ -58,7 +58,7 @@ pub enum GiveStage {
 }
 
 /// What a call that needs the receiver's turn is about, with the step that it has done last. A
-/// binding and an unbinding have one step behind their turn, so they have no stage.
+/// binding and an unbinding have one step after their turn, so they have no stage.
 #[derive(Clone, Copy)]
 pub enum Work {
     Take(TakeStage),

@@ -33,7 +33,7 @@ pub struct Lane {
     pub returned: u64,
 }
 
-/// A lane with the turns of its two ends, each with the call that has it, and the desk behind the
+/// A lane with the turns of its two ends, each with the call that has it, and the desk of the
 /// receiver's turn. Contracts speak of it; no code makes one.
 pub struct LaneState<D> {
     pub lane: Lane,

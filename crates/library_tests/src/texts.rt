@@ -8,7 +8,7 @@ use rp_base::NoMemory;
 use rpmsg_header::HeaderFault;
 use std::test::Fail;
 
-// The text of a fault is the word `fault` and its number; of want of memory it is that.
+// The text of a fault is the word `fault` and its number; where memory ran out it says so.
 #[test]
 fn faults_are_written_by_their_numbers(rt: HostRuntime) -> Result<(), Fail> {
     let alloc = rt.alloc();

@@ -22,9 +22,9 @@ pub data ActPart : Type 0 where
   Joins : End → ActPart
   -- this caller begins a call, and no step of it is done
   Begins : ℕ → Wish → ActPart
-  -- behind so many steps of the run, this caller makes a whole call
+  -- after so many steps of the run, this caller makes a whole call
   Calls : ℕ → ℕ → Wish → ActPart
-  -- so many steps and one of the call that this caller is in, behind so many steps of the run
+  -- so many steps and one of the call that this caller is in, after so many steps of the run
   Advances : ℕ → ℕ → ℕ → ActPart
   -- who watches the link sees how far a call of this caller came
   Sees : ℕ → Reach → ActPart
@@ -63,7 +63,7 @@ made_parts bench steps caller how.Begun wanted = Begins caller wanted ∷ []
 abbrev pub turn_parts : BenchState → ℕ → ℕ → Wish → List ActPart
 turn_parts bench steps caller wanted = parts_unless (begin_fault bench caller wanted) (Calls steps caller wanted ∷ [])
 
--- what is done behind a call of a turn that has a number
+-- what is done after a call of a turn that has a number
 abbrev pub parts_behind : Result ℕ TurnEnd → (ℕ → List ActPart) → List ActPart
 parts_behind (Ok number) later = later number
 parts_behind (Err ended) later = []

@@ -44,7 +44,7 @@ bare_act bytes (act.Step caller more) = act.Step caller more
 bare_act bytes (act.Pump sender receiver count) = act.Pump sender receiver count
 bare_act bytes (act.Reclaim caller) = act.Reclaim caller
 
--- a message that is sent as it stands fits a buffer
+-- a message that is sent as it is fits a buffer
 abbrev pub IsFitWish : CallWish (List ℕ) → Type 0
 IsFitWish (call.Raw message) = length message ≤ MESSAGE_MOST
 IsFitWish other = Unit {0}
@@ -71,13 +71,13 @@ pub record HasActResult {W : Type 0} (acted : ActResult W) (left : BenchState) (
   pub steps : counted ≡ acted.steps
   pub answer : told ≡ acted.answer
 
--- an act on this bench that ends early, for want of memory, leaves that bench and this of who watches its link: a pump, what a pump of so many of its turns leaves, or of fewer; any other act, what was there
+-- an act on this bench that ends early, because memory ran out, leaves that bench and this of who watches its link: a pump, what a pump of so many of its turns leaves, or of fewer; any other act, what was there
 abbrev pub IsCutAct : {W : Type 0} → (LinkAct (List ℕ) → ActResult W) → LinkAct (List ℕ) → BenchState → W → BenchState → W → Type 0
 IsCutAct leaves (act.Pump sender receiver count) bench watcher left seen =
     IsCutPump (λ done. (leaves (act.Pump sender receiver done)).bench) (λ done. (leaves (act.Pump sender receiver done)).watcher) count left seen
 IsCutAct leaves other bench watcher left seen = (left ≡ bench) × (seen ≡ watcher)
 
--- where an answer tells of a call that was handed a message, the call's caller holds its buffer and is in no call
+-- where an answer says of a call that was handed a message, the call's caller holds its buffer and is in no call
 abbrev pub HoldsAnswerTaken : LinkState EndState → ActAnswer → Type 0
 HoldsAnswerTaken link (answer.Caller caller end) = Unit {0}
 HoldsAnswerTaken link answer.CallersFull = Unit {0}
@@ -197,7 +197,7 @@ free_act sees bench watcher steps (act.Reclaim caller) = reclaim_act bench watch
 abbrev pub own_caller : ℕ → ℕ → Option ℕ
 own_caller own caller = if nat_lt caller own then Some caller else None
 
--- a link's own caller for which an act asks something; that a sender isn't in use is told before anything of the receiver
+-- a link's own caller for which an act asks something; that a sender isn't in use is written before anything of the receiver
 abbrev pub own_in : BenchState → ℕ → LinkAct (List ℕ) → Option ℕ
 own_in bench own (act.Caller end) = None
 own_in bench own (act.Call caller made wanted) = own_caller own caller

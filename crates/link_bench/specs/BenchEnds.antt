@@ -75,7 +75,7 @@ with_new_host_unless bench (Some why) = bench
 abbrev pub bench_to_reopen : BenchState → BenchState
 bench_to_reopen bench = with_new_host_unless bench (link_reclaim_refusal (link_in bench) 0)
 
--- why a bench is not reopened: caller 0 is not reclaimed, or the link behind it is not reopened
+-- why a bench is not reopened: caller 0 is not reclaimed, or the link after it is not reopened
 abbrev pub reopen_refusal_by : BenchState → Option ReclaimRefusal → Option ReopenFault
 reopen_refusal_by bench None = link_reopen_refusal (link_in (with_new_host bench))
 reopen_refusal_by bench (Some why) = Some (unready_for why)

@@ -12,7 +12,7 @@ use Rattle.lane_model.specs.Links.{LinkState}
 use Rattle.ring_core.specs.RingWords.{words_of}
 use Rattle.link_bench.specs.Benches.{BenchState, LinkRings, link_in}
 
--- where the buffers of a lane begin: those of lane 0, so many of 512 bytes, at the base, and those of lane 1 behind them
+-- where the buffers of a lane begin: those of lane 0, so many of 512 bytes, at the base, and those of lane 1 after them
 abbrev pub lane_base : ℕ → ℕ → ℕ → ℕ
 lane_base base capacity lane = if lane == 0 then base else base + MESSAGE_MOST * capacity
 

@@ -84,7 +84,7 @@ later_steps form (suc more) last steps link caller =
     else (let step = step_on form link caller 0 None in
     walk_on step.state (steps + 1) step.outcome (λ done. later_steps form more done (steps + 1) step.state caller))
 
--- a call from its first step on, with at most so many steps behind it
+-- a call from its first step on, with at most so many steps after it
 unfoldable pub call_steps : {L : Type 0} → FormMeaning L EndState → ℕ → ℕ → LaneLink L → ℕ → ℕ → Wish → Walk L
 call_steps form more steps link caller follows wish =
     if steps == STEPS_MOST then record { link = link; steps = steps; reach = reach.Limit }
@@ -113,7 +113,7 @@ pub record BenchWalk : Type 0 where
 abbrev pub bench_walk : BenchState → Walk (RingState EndState) → BenchWalk
 bench_walk bench walk = record { bench = record bench { rings = walk.link }; steps = walk.steps; reach = walk.reach }
 
--- one step of the call that a caller is in and at most so many more, from its first step or from where it stands; a call is begun no more once a step of it is done
+-- one step of the call that a caller is in and at most so many more, from its first step or from where it is; a call is begun no more once a step of it is done
 abbrev pub advance_steps : BenchState → ℕ → ℕ → ℕ → Option BegunCall → BenchWalk
 advance_steps bench more steps caller (Some call) =
     if steps == STEPS_MOST then record { bench = bench; steps = steps; reach = reach.Limit }
@@ -124,7 +124,7 @@ advance_steps bench more steps caller None = bench_walk bench (later_steps on_ri
 abbrev pub advance_walk : BenchState → ℕ → ℕ → ℕ → BenchWalk
 advance_walk bench more steps caller = advance_steps bench more steps caller (begun_call_of bench caller)
 
--- a call of a caller that is in none, with at most so many steps behind its first; it follows the incarnation that the link is in
+-- a call of a caller that is in none, with at most so many steps after its first; it follows the incarnation that the link is in
 abbrev pub begin_walk : BenchState → ℕ → ℕ → ℕ → Wish → BenchWalk
 begin_walk bench more steps caller wanted = bench_walk bench (call_steps on_rings more steps bench.rings caller (link_in bench).era.inc wanted)
 

@@ -100,7 +100,7 @@ pump_turns sees (suc more) done sender receiver bench watcher steps =
     if is_whole turn.ended then pump_turns sees more (done + 1) sender receiver turn.bench turn.watcher turn.steps
     else record { turns = turn; done = done }
 
--- turns that end early, for want of memory, leave this bench and this of who watches its link: both are what so many of the turns leave of them, or fewer
+-- turns that end early, because memory ran out, leave this bench and this of who watches its link: both are what so many of the turns leave of them, or fewer
 pub record IsCutPump {W : Type 0} (benches : ℕ → BenchState) (watchers : ℕ → W) (count : ℕ) (left : BenchState) (seen : W) : Type 0 where
   pub done : ℕ
   pub most : done ≤ count

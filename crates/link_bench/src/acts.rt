@@ -30,7 +30,7 @@ pub enum CallWish<P> {
         destination: u32,
         payload: P,
     },
-    /// To send a message as it stands, its header included.
+    /// To send a message as it is, its header included.
     Raw {
         message: P,
     },
@@ -107,7 +107,7 @@ impl Bench {
     /// Does an act on the link, the first `own` of whose callers are not there to others. The watcher
     /// sees the end of each call, that of a turn's take before its give, and `steps` counts the steps.
     ///
-    /// Errors: only for want of memory, where the watcher needs it before a call, before steps or before a
+    /// Errors: only if memory runs out, where the watcher needs it before a call, before steps or before a
     /// turn. Bench and watcher are then as they were, or, of a pump, as so many of its turns leave both.
     #[tactic(auto, unfolding(crate::specs::Acts::link_act))]
     pub fn act<W: Watcher>(
@@ -150,7 +150,7 @@ impl Bench {
 
     /// Does an act that asks nothing for a caller of the link's own.
     ///
-    /// Errors: only for want of memory, where the watcher needs it. Bench and watcher are then as they were,
+    /// Errors: only if memory runs out, where the watcher needs it. Bench and watcher are then as they were,
     /// or, of a pump, as so many of its turns leave both.
     fn free_act<W: Watcher>(
         &mut self,
@@ -186,7 +186,7 @@ impl Bench {
 
     /// A call of a caller, whole or only begun.
     ///
-    /// Errors: only for want of memory, where the watcher needs it before a whole call. Nothing of the call
+    /// Errors: only if memory runs out, where the watcher needs it before a whole call. Nothing of the call
     /// is done: bench and watcher are as they were.
     #[tactic(auto, unfolding(crate::specs::Acts::call_act))]
     fn call_act<W: Watcher>(
@@ -242,7 +242,7 @@ impl Bench {
 
     /// One step of the call that a caller is in, and `more` further ones.
     ///
-    /// Errors: only for want of memory, where the watcher needs it before the steps. None of them is done:
+    /// Errors: only if memory runs out, where the watcher needs it before the steps. None of them is done:
     /// bench and watcher are as they were.
     #[tactic(auto, unfolding(crate::specs::Acts::step_act))]
     fn step_act<W: Watcher>(
@@ -288,7 +288,7 @@ impl Bench {
 
     /// So many turns of two callers on two ends, where both are in use and neither is in a call.
     ///
-    /// Errors: only for want of memory, before a turn, where the watcher needs it: bench and watcher are then
+    /// Errors: only if memory runs out, before a turn, where the watcher needs it: bench and watcher are then
     /// as so many turns leave both, or fewer.
     #[tactic(auto, unfolding(crate::specs::Acts::pump_act))]
     fn pump_act<W: Watcher>(

@@ -77,7 +77,7 @@ impl Bench {
     /// each lane the messages accepted, who took each that was handed over, and how many those are.
     ///
     /// Errors: [`ReopenFault::StillOpen`], then `StillTurn`, `StillHeld` and `IncarnationsSpent`, or
-    /// want of memory. Nothing changes then.
+    /// out of memory. Nothing changes then.
     pub fn reopen(&mut self, alloc: Global) -> Result<Books, ReopenFault>
         ensures refused { IfErr result (λ fault. (self.new ≡ self.old) × ((link_reopen_refusal (link_in self.old) ≡ Some fault)
             ⊎ ((fault ≡ reopen_fault.NoMemory) × (link_reopen_refusal (link_in self.old) ≡ None)))) }

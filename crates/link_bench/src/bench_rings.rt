@@ -34,7 +34,7 @@ impl Bench {
     /// The channels of the host end, in the order of creation.
     ///
     /// Errors: [`SnapshotFault::StillTurn`] exactly where a caller has the turn of lane 0's receiver,
-    /// or want of memory.
+    /// or out of memory.
     pub fn channels(&mut self, alloc: Global) -> Result<Vec<Channel>, SnapshotFault>
         ensures same { self.new ≡ self.old }
         ensures free { OnOk result (holder (link_in self.old).to_host.receiver ≡ None) }
@@ -45,11 +45,11 @@ impl Bench {
         self.link.channels(alloc)
     }
 
-    /// The era of the link and the words of both its lanes as they stand. No memory was given to the
-    /// link, so its buffers stand from address 0 on.
+    /// The era of the link and the words of both its lanes as they are. No memory was given to the
+    /// link, so its buffers lie from address 0 on.
     ///
     /// Errors: [`SnapshotFault::StillTurn`] exactly where a turn is out, with the holder that
-    /// [`Bench::turn_holder`] answers; else only want of memory.
+    /// [`Bench::turn_holder`] answers; else only out of memory.
     pub fn snapshot(&mut self, alloc: Global) -> Result<Snapshot, SnapshotFault>
         ensures same { self.new ≡ self.old }
         ensures free { OnOk result (turn_holder (link_in self.old) ≡ None) }
@@ -100,7 +100,7 @@ impl Bench {
         ring_bytes(alloc, align, &words)
     }
 
-    /// The bytes of a lane's ring of a link that no memory was given: its buffers stand from address 0
+    /// The bytes of a lane's ring of a link that no memory was given: its buffers lie from address 0
     /// on, and its used ring at a multiple of four. Lane 0 is that to the host, 1 to the remote. No turn
     /// is out.
     pub fn ring_bytes(&mut self, alloc: Global, lane: u64) -> Result<Vec<u8>, NoMemory>
@@ -114,7 +114,7 @@ impl Bench {
         ring_bytes(alloc, 4, &words)
     }
 
-    /// The words of a lane's rings over buffers that stand from address 0 on.
+    /// The words of a lane's rings over buffers that lie from address 0 on.
     fn lane_words(&mut self, alloc: Global, lane: u64) -> Result<RingWords, NoMemory>
         requires { turn_holder (link_in self.old) ≡ None }
         ensures same { self.new ≡ self.old }
@@ -130,7 +130,7 @@ impl Bench {
     }
 }
 
-/// Where a lane's buffers begin: `capacity` of 512 bytes of lane 0 at the base, lane 1's behind.
+/// Where a lane's buffers begin: `capacity` of 512 bytes of lane 0 at the base, lane 1's after them.
 pub fn lane_base(base: Da, capacity: u16, lane: u64) -> Da
     requires { base + MESSAGE_MOST * capacity < 2 ^ 32 }
     ensures { result ≡ lane_base base capacity lane }

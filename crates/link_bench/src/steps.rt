@@ -60,7 +60,7 @@ pub(crate) fn later_step(link: &mut ManagedLink, caller: CallerNo, reach: &mut R
     }
 }
 
-/// A call of a caller from its first step on, with at most `more` steps behind it; `reach` says how far.
+/// A call of a caller from its first step on, with at most `more` steps after it; `reach` says how far.
 #[tactic(auto, unfolding(crate::specs::Benches::call_steps))]
 pub(crate) fn call_steps(
     link: &mut ManagedLink,

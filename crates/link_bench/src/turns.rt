@@ -38,7 +38,7 @@ impl Bench {
     /// the end of each take before its give. `ended` says how the last turn ended, and `steps` counts
     /// the steps.
     ///
-    /// Errors: only for want of memory, before a turn, where the watcher needs it. Nothing of that turn is
+    /// Errors: only if memory runs out, before a turn, where the watcher needs it. Nothing of that turn is
     /// done: bench and watcher are then as so many turns leave both, or fewer.
     pub fn turns<W: Watcher>(
         &mut self,
@@ -209,7 +209,7 @@ fn reach_number(caller: CallerNo, reach: &Reach, ended: &mut TurnEnd) -> Option<
     None
 }
 
-/// The message of a header and the bytes behind it.
+/// The message of a header and the bytes after it.
 pub(crate) fn message_of(head: &[u8], body: &[u8]) -> Message
     requires { length head.now + length body.now ≤ MESSAGE_MOST }
     ensures { result ≡ head.now ++ body.now }

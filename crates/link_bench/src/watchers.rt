@@ -22,7 +22,7 @@ pub trait Watcher {
 
     /// Makes room for what it makes of the end of one call.
     ///
-    /// Errors: only for want of memory.
+    /// Errors: only if memory runs out.
     fn make_room(&mut self) -> Result<(), NoMemory>
         ensures room { OnOk result (HasRoom self.new) }
         ensures same { state self.new ≡ state self.old };

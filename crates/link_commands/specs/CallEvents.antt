@@ -1,4 +1,4 @@
--- What the end of a call tells (own).
+-- What is written of the end of a call (own).
 use Rattle.std.specs.Prelude.{ℕ, List, [], ◌∷◌}
 use Rattle.rp_base.specs.declared.kinds.Verdict.{Verdict}
 use Rattle.rp_base.specs.declared.kinds.Verdict.TheVariants as verdict
@@ -49,7 +49,7 @@ end_event name link caller (end.BookFull accepted) = event.BookFull name caller 
 end_event name link caller (end.Empty accepted) = event.Empty name caller accepted
 end_event name link caller (end.Refused why) = refused_event name caller why
 
--- what a call tells that came so far: nothing where the run has no step left
+-- what is written of a call that came so far: nothing where the run has no step left
 abbrev pub reach_events : List ℕ → LinkState EndState → ℕ → Reach → List Event
 reach_events name link caller (reach.At step) = event.At name caller step ∷ []
 reach_events name link caller (reach.Ended ended) = end_event name link caller ended ∷ []

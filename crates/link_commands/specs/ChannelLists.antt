@@ -1,4 +1,4 @@
--- What is told of the channels of a link (own).
+-- What is written of the channels of a link (own).
 use Rattle.std.specs.Prelude.{ℕ, List, [], ◌∷◌, map, Option, Some, None, Result, Ok, Err, Vec}
 use Rattle.std.specs.declared.alloc.Global.{Global}
 use Rattle.lane_model.specs.Lanes.{holder}
@@ -13,13 +13,13 @@ use Rattle.link_bench.specs.Benches.{BenchState, link_in}
 abbrev pub channel_event : List ℕ → Channel → Event
 channel_event name channel = event.Channel name channel.name channel.address channel.endpoint
 
--- what is told of the channels that a link answers; want of memory tells nothing
+-- what is written of the channels that a link answers; out of memory writes nothing
 abbrev pub found_channels : List ℕ → Result (Vec Channel Global) SnapshotFault → Option (List Event)
 found_channels name (Ok channels) = Some (map (channel_event name) channels.items)
 found_channels name (Err (snapshot_fault.StillTurn caller)) = Some (event.StillTurn name caller ∷ [])
 found_channels name (Err snapshot_fault.NoMemory) = None
 
--- the channels of the host end, where no caller has the turn behind which they stand
+-- the channels of the host end, where no caller has the turn with which they go
 abbrev pub channel_events_unless : List ℕ → BenchState → Option ℕ → List Event
 channel_events_unless name bench (Some caller) = event.StillTurn name caller ∷ []
 channel_events_unless name bench None = map (channel_event name) (link_in bench).to_host.desk.channels

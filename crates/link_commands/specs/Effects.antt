@@ -1,4 +1,4 @@
--- What an act on a link leaves of it and tells (own).
+-- What an act on a link leaves of it and writes (own).
 use Rattle.std.specs.Prelude.{ℕ, List, [], ◌∷◌, Option, Some, None}
 use Rattle.link_bench.specs.declared.acts.ActAnswer.{ActAnswer}
 use Rattle.link_bench.specs.declared.acts.ActAnswer.TheVariants as answer
@@ -20,7 +20,7 @@ use Rattle.link_commands.specs.declared.stops.Stop.{Stop}
 use Rattle.link_commands.specs.declared.stops.Stop.TheVariants as stop
 use Rattle.link_commands.specs.CallEvents.{end_event, fault_event, reach_events}
 
--- what a command leaves of its bench, the steps of the run until then, what it tells, and why the run stops in its midst, if it does
+-- what a command leaves of its bench, the steps of the run until then, what it writes, and why the run stops in its midst, if it does
 pub record Effect : Type 0 where
   pub bench : BenchState
   pub steps : ℕ
@@ -41,7 +41,7 @@ limit_stop (reach.At step) = None
 limit_stop (reach.Ended ended) = None
 limit_stop reach.Limit = Some stop.StepLimit
 
--- what turns tell: how the last one ended, if it wasn't whole, then how many were done; nothing where the run has no step left
+-- what is written of turns: how the last one ended, if it wasn't whole, then how many were done; nothing where the run has no step left
 abbrev pub turn_events : List ℕ → LinkState EndState → ℕ → TurnEnd → List Event
 turn_events name link done turn_end.Whole = event.Pumped name done ∷ []
 turn_events name link done (turn_end.Fault caller why) = fault_event name caller why ∷ event.Pumped name done ∷ []

@@ -1,4 +1,4 @@
--- What a close and a reopening of a link leave of it and tell (own).
+-- What a close and a reopening of a link leave of it and write (own).
 use Rattle.std.specs.Prelude.{ℕ, ◌+◌, ◌==◌, List, [], ◌∷◌, Option, Some, None, if◌then◌else◌}
 use Rattle.rp_base.specs.declared.limits.TheConstants.{STEPS_MOST}
 use Rattle.rp_base.specs.declared.kinds.Era.{Era}
@@ -23,7 +23,7 @@ close_effect name bench steps =
     if steps == STEPS_MOST then record { bench = bench; steps = steps; events = []; ending = Some stop.StepLimit }
     else tells (after_close bench) (steps + 1) (close_event name (link_in bench).era (link_close_refusal (link_in bench).era (link_in bench).era.inc))
 
--- why a link isn't opened again (want of memory isn't the link's refusal, and ends the run)
+-- why a link isn't opened again (out of memory isn't the link's refusal, and ends the run)
 abbrev pub reopen_events : List ℕ → ReopenFault → List Event
 reopen_events name (reopen_fault.StillOpen era) = event.StillOpen name era.inc ∷ []
 reopen_events name (reopen_fault.StillTurn caller) = event.StillTurn name caller ∷ []

@@ -1,4 +1,4 @@
--- What `ring` tells: the bytes of a lane's ring as it lies in memory (VIRTIO 1.2 section 2.7), sixteen a line (own).
+-- What `ring` writes: the bytes of a lane's ring as it lies in memory (VIRTIO 1.2 section 2.7), sixteen a line (own).
 use Rattle.std.specs.Prelude.{ℕ, zero, suc, ◌+◌, ◌/◌, ◌==◌, List, [], ◌∷◌, ◌++◌, length, take, drop, Option, Some, None, if◌then◌else◌}
 use Rattle.std.specs.List.{list_all}
 use Rattle.journal.specs.declared.events.Event.{Event}

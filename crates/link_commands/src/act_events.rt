@@ -14,10 +14,10 @@ use link_bench::{ActAnswer, Bench, Reach, Reclaim, TurnEnd};
 use rp_base::{CallerNo, Era, Name, NoMemory};
 use run_log::RunLog;
 
-/// Tells what came of an act on the link of this name, which stands as the act left it, and answers why
+/// Writes what came of an act on the link of this name, which is as the act left it, and answers why
 /// the run stops with it, if it does.
 ///
-/// Errors: only for want of memory.
+/// Errors: only if memory runs out.
 pub fn tell_answer(
     name: Name,
     bench: &Bench,
@@ -43,10 +43,10 @@ pub fn tell_answer(
     Ok(None)
 }
 
-/// Tells how far a call came of a caller of the link of this name, and answers why the run stops with it,
+/// Writes how far a call came of a caller of the link of this name, and answers why the run stops with it,
 /// if it does.
 ///
-/// Errors: only for want of memory.
+/// Errors: only if memory runs out.
 pub fn tell_reach(
     name: Name,
     bench: &Bench,
@@ -67,7 +67,7 @@ pub fn tell_reach(
     Ok(None)
 }
 
-/// Tells how the last turn ended, if it wasn't whole, and how many were.
+/// Writes how the last turn ended, if it wasn't whole, and how many were.
 fn tell_turns(
     name: Name,
     bench: &Bench,

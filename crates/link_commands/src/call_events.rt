@@ -9,7 +9,7 @@ use link_bench::{Bench, BenchFault};
 use rp_base::{BindFault, CallerNo, Data, Name, NoMemory, Verdict};
 use std::alloc::Global;
 
-/// What a refusal of a bench tells.
+/// What is written of a refusal of a bench.
 pub(crate) fn fault_event(name: Name, caller: CallerNo, fault: BenchFault) -> Event
     ensures { result ≡ fault_event name caller fault }
 {
@@ -21,7 +21,7 @@ pub(crate) fn fault_event(name: Name, caller: CallerNo, fault: BenchFault) -> Ev
     }
 }
 
-/// What the end of a call of a caller of this link tells.
+/// What is written of the end of a call of a caller of this link.
 pub(crate) fn end_event(
     alloc: Global,
     name: Name,
@@ -52,7 +52,7 @@ pub(crate) fn end_event(
     })
 }
 
-/// What the end of a take tells.
+/// What is written of the end of a take.
 fn took_event(
     alloc: Global,
     name: Name,

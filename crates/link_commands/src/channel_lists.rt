@@ -9,10 +9,10 @@ use rp_base::{Name, NoMemory};
 use run_log::RunLog;
 use vring_layout::SnapshotFault;
 
-/// Tells the channels that the host end of the link of this name knows, one a line, or who has the turn
-/// behind which they stand.
+/// Writes the channels that the host end of the link of this name knows, one a line, or who has the turn
+/// with which they go.
 ///
-/// Errors: only for want of memory, in `found` too.
+/// Errors: only if memory runs out, in `found` too.
 pub fn tell_channels(
     name: Name,
     found: Result<Vec<Channel>, SnapshotFault>,
@@ -27,7 +27,7 @@ pub fn tell_channels(
     }
 }
 
-/// Tells channels in their order.
+/// Writes channels in their order.
 fn tell_list(name: Name, channels: &[Channel], log: &mut RunLog) -> Result<(), NoMemory>
     ensures { OnOk result (log.new ≡ record log.old { lines = log.old.lines ++ transcript (map (channel_event name) channels.now) }) }
 {

@@ -34,10 +34,10 @@ impl Model for NamedBench {
 }
 
 impl NamedBench {
-    /// Does what is asked under the name of this link: tells what came of it, and answers why the run
+    /// Does what is asked under the name of this link: writes what came of it, and answers why the run
     /// stops in its midst, if it does.
     ///
-    /// Errors: only for want of memory. The link may have changed then, or not.
+    /// Errors: only if memory runs out. The link may have changed then, or not.
     #[tactic(auto, unfolding(crate::specs::LinkCommands::link_effect))]
     pub fn run(&mut self, act: &NamedAct<&[u8]>, log: &mut RunLog) -> Result<Option<Stop>, NoMemory>
         requires fit { IsFitNamed (bare_named_act (λ bytes. bytes.now) act.now) }
@@ -69,7 +69,7 @@ impl NamedBench {
         }
     }
 
-    /// Tells one event, and leaves the link as it is.
+    /// Writes one event, and leaves the link as it is.
     pub(crate) fn tell(&mut self, event: &Event, log: &mut RunLog) -> Result<Option<Stop>, NoMemory>
         ensures same { self.new ≡ self.old }
         ensures effect { IfOk result (λ ending. HasEffect (tells self.old.bench log.old.steps event.now) self.new.bench log.old log.new ending) }
@@ -79,7 +79,7 @@ impl NamedBench {
     }
 }
 
-/// Tells what a link shows.
+/// Writes what a link shows.
 #[tactic(auto, unfolding(crate::specs::LinkCommands::view_events))]
 fn tell_view(
     name: Name,
@@ -98,9 +98,9 @@ fn tell_view(
     }
 }
 
-/// Tells the counts of both lanes of the link of this name.
+/// Writes the counts of both lanes of the link of this name.
 ///
-/// Errors: only for want of memory.
+/// Errors: only if memory runs out.
 #[tactic(auto, unfolding(crate::specs::LinkCommands::view_events))]
 pub fn tell_books(name: Name, bench: &Bench, log: &mut RunLog) -> Result<(), NoMemory>
     ensures { OnOk result (log.new ≡ record log.old { lines = log.old.lines ++ transcript (view_events name bench.now view.Books) }) }

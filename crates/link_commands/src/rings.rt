@@ -9,10 +9,10 @@ use link_bench::Bench;
 use rp_base::{Data, Name, NoMemory};
 use run_log::RunLog;
 
-/// The bytes of a line that tells of a ring.
+/// The bytes of a line that shows a ring.
 const ROW: usize = 16;
 
-/// Tells the bytes of a lane's ring of a link, unless one of its turns is out.
+/// Writes the bytes of a lane's ring of a link, unless one of its turns is out.
 #[tactic(auto, unfolding(crate::specs::RingDumps::bench_ring_events))]
 pub(crate) fn tell_ring(
     name: Name,
@@ -31,10 +31,10 @@ pub(crate) fn tell_ring(
     tell_bytes(name, lane, &bytes, log)
 }
 
-/// Tells how many bytes the ring of a lane has, 0 that to the host or 1, and the bytes: sixteen a line, but
+/// Writes how many bytes the ring of a lane has, 0 that to the host or 1, and the bytes: sixteen a line, but
 /// no line of zeros.
 ///
-/// Errors: only for want of memory.
+/// Errors: only if memory runs out.
 pub fn tell_bytes(name: Name, lane: u64, bytes: &[u8], log: &mut RunLog) -> Result<(), NoMemory>
     requires { lane ≤ 1 }
     ensures { OnOk result (log.new ≡ record log.old { lines = log.old.lines ++ transcript (ring_events name lane bytes.now) }) }
@@ -44,7 +44,7 @@ pub fn tell_bytes(name: Name, lane: u64, bytes: &[u8], log: &mut RunLog) -> Resu
     tell_rows(name, bytes, log)
 }
 
-/// Tells bytes, sixteen a line, but no line of zeros.
+/// Writes bytes, sixteen a line, but no line of zeros.
 fn tell_rows(name: Name, bytes: &[u8], log: &mut RunLog) -> Result<(), NoMemory>
     ensures { OnOk result (log.new ≡ record log.old { lines = log.old.lines ++ transcript (dump_rows (row_count bytes.now) name 0 bytes.now) }) }
 {
@@ -56,7 +56,7 @@ fn tell_rows(name: Name, bytes: &[u8], log: &mut RunLog) -> Result<(), NoMemory>
     Ok(())
 }
 
-/// Tells up to sixteen bytes at an offset, unless all are zero.
+/// Writes up to sixteen bytes at an offset, unless all are zero.
 fn tell_row(name: Name, offset: u64, row: &[u8], log: &mut RunLog) -> Result<(), NoMemory>
     requires { length row.now ≤ 16 }
     ensures { OnOk result (log.new ≡ record log.old { lines = log.old.lines ++ transcript (row_events name offset row.now) }) }

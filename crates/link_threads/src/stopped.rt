@@ -9,13 +9,13 @@ use split_ring::{Manager, ReopenFault, SharedLink};
 use std::alloc::Global;
 
 /// Whether a caller that stops in a send, with the sender's turn, is reclaimed by the manager that carries it: the
-/// closed link opens again behind that, and not before.
+/// closed link opens again after that, and not before.
 pub fn can_reclaim(alloc: Global) -> Result<bool, NoMemory> {
     let (link, mut manager) = small_link(alloc)?;
     Ok(reclaims_sender(alloc, &link, &mut manager))
 }
 
-/// Whether a remote caller that stops behind the first step of a send is reclaimed on this link.
+/// Whether a remote caller that stops after the first step of a send is reclaimed on this link.
 fn reclaims_sender(alloc: Global, link: &SharedLink<Side>, manager: &mut Manager) -> bool
     requires { IsManagerOf link.now manager.old }
 {

@@ -89,13 +89,13 @@ pub record IsWithin (a b : LaneCounts) : Type 0 where
   pub handed : a.handed ≤ b.handed
   pub returned : a.returned ≤ b.returned
 
--- what a step tells of the counts, 0 where it tells nothing
+-- what a step says of the counts, 0 where it says nothing
 abbrev pub counts_told : Counted → LaneCounts
 counts_told (Room accepted returned) = record { accepted = accepted; handed = 0; returned = returned }
 counts_told (Waiting handed accepted) = record { accepted = accepted; handed = handed; returned = 0 }
 counts_told (Gave returned) = record { accepted = 0; handed = 0; returned = returned }
 
--- and what the acceptance and the handing of the message of this number tell
+-- and what the acceptance and the handing of the message of this number say
 abbrev pub counts_published : ℕ → LaneCounts
 counts_published number = record { accepted = number + 1; handed = 0; returned = 0 }
 
@@ -116,7 +116,7 @@ IsNotBelow before (Room accepted returned) = (before.accepted ≤ accepted) × (
 IsNotBelow before (Waiting handed accepted) = (before.handed ≤ handed) × (before.accepted ≤ accepted)
 IsNotBelow before (Gave returned) = before.returned < returned
 
--- the counts of the lane to this end never go back: what a step behind these tells of them in this incarnation is not below what was seen, and no
+-- the counts of the lane to this end never go back: what a step after these says of them in this incarnation is not below what was seen, and no
 -- step before it is of a later incarnation
 pub record NeverBack (lane : End) (inc : ℕ) (counts : Counted) (own : List Event) : Type 0 where
   pub not_below : IsNotBelow (seen lane inc own) counts

@@ -1,4 +1,4 @@
--- What a caller wishes, by what its first step is told of it (own).
+-- What a caller wishes, by what its first step is given of it (own).
 use Rattle.lane_model.specs.declared.calls.Wish.{Wish}
 use Rattle.lane_model.specs.declared.calls.Wish.TheVariants as wish
 use Rattle.link_words.specs.declared.intents.IntentKind.{IntentKind}

@@ -1,4 +1,4 @@
--- What a look of the manager at a word tells (own).
+-- What a look of the manager at a word says (own).
 use Rattle.std.specs.Prelude.{◌≡◌, ◌<◌, ◌^◌, ℕ}
 use Rattle.lane_model.specs.declared.lane_links.LaneLink.{LaneLink}
 use Rattle.ring_core.specs.declared.states.RingState.{RingState}

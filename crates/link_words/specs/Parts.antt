@@ -118,7 +118,7 @@ pub record TurnsPart (t : LinkTurns) (p : ℕ) (views : List View) : Type 0 wher
   pub still : (p ≡ 0) ⊎ ((t.era.is_live ≡ false) × HasFourTurns (λ e. (t.lanes e).sender) (λ e. (t.lanes e).receiver))
 
 -- two counts of a lane are at most its capacity apart: a buffer is given back after it was accepted, and no more are out than there are.
--- So an index, which is a count modulo 65,536, tells the count
+-- So an index, which is a count modulo 65,536, gives the count
 abbrev pub AreNear : ℕ → ℕ → ℕ → Type 0
 AreNear capacity accepted returned = (returned ≤ accepted) × (accepted ≤ returned + capacity)
 
@@ -145,7 +145,7 @@ pub record HistoriesPart (inc : ℕ) (callers : List (Option End)) (books : End 
   pub hands : EachPass (λ q. HasHands callers books q.number q.hands) views
   pub latest : EachPass (λ q. IsOfNow inc q.number q.hands q.own) views
 
--- a number tells the one place of its pass
+-- a number gives the one place of its pass
 abbrev pub AreNumbersApart : List View → Type 0
 AreNumbersApart views = (i k j l : ℕ) (p q : Pass) → PassAt views i k p → PassAt views j l q → p.number ≡ q.number → (i ≡ j) × (k ≡ l)
 

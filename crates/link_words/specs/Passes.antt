@@ -1,4 +1,4 @@
--- Passes in views: where each stands, which one a step moves, and how passes go from one view to another (own).
+-- Passes in views: where each is, which one a step moves, and how passes go from one view to another (own).
 use Rattle.std.specs.Prelude.{true, Bool, ◌+◌, if◌then◌else◌, ◌==◌, ◌≡◌, ℕ, zero, suc, List, [], ◌∷◌, ◌++◌, false, slice_set, Some, None}
 use Rattle.lane_model.specs.declared.TheConstants.{MANAGER}
 use Rattle.std.specs.Prelude.{Option as Option_of}
@@ -86,11 +86,11 @@ without_last v = record v { passes = all_but_last v.passes; out = numbers_of (la
 abbrev pub only_last : View → View
 only_last v = record spent_view { passes = last_pass_only v.passes; sizes = v.sizes }
 
--- a join: the passes of the other come behind; the list of those out keeps their numbers
+-- a join: the passes of the other come after; the list of those out keeps their numbers
 abbrev pub with_passes_from : View → View → View
 with_passes_from v w = record v { passes = v.passes ++ w.passes }
 
--- a caller is made on this end: its pass comes behind the others, under the least free number
+-- a caller is made on this end: its pass comes after the others, under the least free number
 abbrev pub new_pass : End → ℕ → ℕ → Pass
 new_pass e number first = record { number = number; call = Rests e; first = first; own = []; hands = [] }
 
@@ -139,7 +139,7 @@ callers_without (p ∷ ps) users = slice_set users p.number None
 abbrev pub after_end_with : View → View → View
 after_end_with v w = record v { copy = None; reclaims = numbers_of w.passes ++ v.reclaims; ended_passes = w.passes ++ v.ended_passes; users = callers_without w.passes v.users }
 
--- where the pass of this number stands
+-- where the pass of this number is
 abbrev pub place_of_number : ℕ → List Pass → ℕ
 place_of_number n [] = 0
 place_of_number n (p ∷ ps) = if p.number == n then 0 else suc (place_of_number n ps)

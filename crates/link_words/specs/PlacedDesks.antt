@@ -1,4 +1,4 @@
--- A desk in its place behind the receiver's turn of an end, in a table of its own, and the right to it, which goes with that turn (own).
+-- A desk in its place with the receiver's turn of an end, in a table of its own, and the right to it, which goes with that turn (own).
 use Rattle.std.specs.Prelude.{◌≡◌, [], Bool, true, false}
 use mathlib.Core.Path.{refl, sym, ap, ◌∙◌}
 use base.Stored.{Gv, gnil, gcons, Coded, coded×, coded_bool, coded_via}

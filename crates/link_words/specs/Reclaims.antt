@@ -1,4 +1,4 @@
--- What the steps of a reclaim tell that are made with the seat of the caller that is reclaimed. They are the manager's, so none of them is noted in the
+-- What the steps of a reclaim say that are made with the seat of the caller that is reclaimed. They are the manager's, so none of them is noted in the
 -- caller's list (own).
 use Rattle.std.specs.Prelude.{◌≡◌, ◌≢◌, ℕ, ◌≤◌, ◌<◌, Bool, true, false, if◌then◌else◌, List, [], ◌∷◌}
 use base.Stored.{Coded}
@@ -112,7 +112,7 @@ ClaimsTurn end caller me n me' = let k = place_of_number caller me.0.passes in
     (n ≡ 0 → (y : ReceiverSide) × Becomes (λ p. with_call p (claimed_call y p.call)) k ((receiver_slot end, Receiver y) ∷ me.1) me me')
     × (n ≢ 0 → Becomes (λ p. with_call p (spared_call p.call)) k me.1 me me')
 
--- the side state that goes home behind a call that had the receiver's turn: what the caller held is in hand no more
+-- the side state that goes home after a call that had the receiver's turn: what the caller held is in hand no more
 abbrev pub without_hands : ReceiverSide → ℕ → ReceiverSide
 without_hands x caller = record x { hands = hands_of_others x.hands caller }
 
@@ -188,7 +188,7 @@ ending_of (Gathers x y) caller = Nothing
 abbrev pub LeavesEnded : SeatState → SeatState → Type 0
 LeavesEnded me me' = let k = place_of me in Becomes (λ p. ended_pass p p.call) k (slots_left (call_at k me.0.passes) me.1) me me'
 
--- the two steps as the table tells them
+-- the two steps as the table says
 abbrev pub ClaimsAs : {D : Type 0} → Coded D → DeskMeaning D → End → ℕ → ℕ → SeatState → ℕ → SeatState → Type 0
 ClaimsAs coded meaning end caller place me n me' = ClaimsTurn end caller me n me' × (n ≤ 65) × DoesAt coded meaning (place_of_number caller me.0.passes) me (HasWord place n) (ManagerTakes lane_turn.Receiver end) me'
 

@@ -1,4 +1,4 @@
--- What the steps tell by which the manager takes the turns of a link, leaves them, and opens the next incarnation (own).
+-- What the steps say by which the manager takes the turns of a link, leaves them, and opens the next incarnation (own).
 use Rattle.std.specs.Option.{option_map_or}
 use Rattle.std.specs.Prelude.{Bool, nat_lt, fold, if◌then◌else◌, ◌≡◌, ◌≢◌, ◌⊎◌, ◌<◌, ◌≤◌, ◌+◌, ◌-◌, ℕ, suc, true, false, List, [], ◌∷◌, length, map, Option, Some, None}
 use Rattle.lane_model.specs.declared.TheConstants.{MANAGER}
@@ -73,7 +73,7 @@ reopens_or otherwise f (Gathers a b) = otherwise
 abbrev pub sides_of : Call → End → LaneSides
 sides_of call e = gathers_or (reopens_or no_sides (λ q inc a b. sides_at e a b) call) (λ a b. sides_at e a b) call
 
--- where the manager's own pass stands, and its call
+-- where the manager's own pass is, and its call
 abbrev pub manager_place : SeatState → ℕ
 manager_place me = place_of_number MANAGER me.0.passes
 
@@ -194,7 +194,7 @@ back_by (Some x) = x.returned
 abbrev pub books_by : LaneSides → LaneBooks
 books_by g = record { accepted = sent_by g.sender; takers = taken_by g.receiver; held = map holding_of (hands_by g.receiver); returned = back_by g.receiver }
 
--- books of an incarnation are told by a view: each pass that it has did what they say of it, and so did each that was reclaimed in this incarnation; and they
+-- books of an incarnation are given by a view: each pass that it has did what they say of it, and so did each that was reclaimed in this incarnation; and they
 -- say nothing of a number that is not in use and was not freed in this incarnation. No more buffers are back than were handed over
 pub record AreBooksOf (v : View) (books : End → LaneBooks) : Type 0 where
   pub own : (k : ℕ) (q : Pass) → get_elem? v.passes k ≡ some q → HasHistory v.inc books q.number q.first q.own
@@ -202,7 +202,7 @@ pub record AreBooksOf (v : View) (books : End → LaneBooks) : Type 0 where
   pub ended : (k : ℕ) (p : Pass) → get_elem? v.ended_passes k ≡ some p → HasHistory v.inc books p.number p.first p.own
   pub back : (e : End) → (books e).returned ≤ length (books e).takers
 
--- the manager, which has all side states, loads the era: where it is closed, a reopening begins, and the books are told
+-- the manager, which has all side states, loads the era: where it is closed, a reopening begins, and the books are given
 abbrev pub BeginsReopening : SeatState → ℕ → SeatState → Type 0
 BeginsReopening me n me' = (era : Era) × (n ≡ era_word era) × (era.inc ≡ me.0.inc) × (era.inc < 4294967296) × (me.0.is_closed ≡ true → era.is_live ≡ false)
     × (era.is_live ≡ false → Becomes (λ p. with_call p (gathers_or p.call (Reopens 0 era.inc) p.call)) (manager_place me) me.1 me me'

@@ -98,7 +98,7 @@ module _ {B : Type 0} {kc : Coded B} {kz : DeskTables} (coded : Coded (PlacedDes
   abbrev pub WordsRule : LinkSizes → State Slot View → Type 0
   WordsRule z s = (m : LaneLink (RingState (PlacedDesk kc kz))) × (p : ℕ) × Shows z s m p
 
-  -- the rule over the words of the table, which stand apart
+  -- the rule over the words of the table, which are apart
   abbrev pub PlacedRule : LinkSizes → State Slot View → Type 0
   PlacedRule z s = (words : List ℕ) × (s.words ≡ layout words) × WordsRule z (record s { words = words })
 

@@ -1,4 +1,4 @@
--- What the steps tell that move, make and end callers, and those of the manager's own view (own).
+-- What the steps say that move, make and end callers, and those of the manager's own view (own).
 use Rattle.std.specs.Prelude.{not, ◌≡◌, ◌<◌, ◌==◌, ◌||◌, ℕ, Bool, true, false, Some}
 use Rattle.lane_model.specs.declared.TheConstants.{MANAGER}
 use mathlib.Core.Option.{Option, some, none}
@@ -42,7 +42,7 @@ LearnsEra me n me' = (era : Era) × (n ≡ era_word era) × (era.inc < 429496729
 abbrev pub Settles : SeatState → SeatState → Type 0
 Settles me me' = (k : LinkCopy) × (me' ≡ (after_settle me.0 (Some k), me.1))
 
--- whether this era is closed behind an attempt to close this incarnation
+-- whether this era is closed after an attempt to close this incarnation
 abbrev pub is_closed_behind : ℕ → Era → Bool
 is_closed_behind inc era = not era.is_live || (era.inc == inc)
 

@@ -441,7 +441,7 @@ LoadsIndex index.Room me n me' = SendLooks me n me'
 LoadsIndex index.OwnBuffer me n me' = SendTakesBuffer (accepted_by me) me me'
 LoadsIndex index.Message me n me' = TakeLooks me n me'
 
--- a send loads the return entry of its number, behind those that take a buffer of the own list; a take the forward entry of its message.
+-- a send loads the return entry of its number, after those that take a buffer of the own list; a take the forward entry of its message.
 -- The low half of an entry's word is the number of the buffer
 abbrev pub MayLoadEntry : Ring → End → ℕ → SeatState → Type 0
 MayLoadEntry ring.Return lane count me = SendAt me lane stage.Look × (accepted_by me ≡ (sizes_by me).own + count)
@@ -457,7 +457,7 @@ pub record HandsAt (me : SeatState) : Type 0 where
   pub at : WorkAt me lane (work.Take take_stage.Buffer)
   pub slots : me.1 ≡ (buffer_slot me.0.sizes.to_host.capacity lane at.buffer, Buffer at.message) ∷ rest me.1
 
--- a binding or an unbinding, which have one step behind their turn
+-- a binding or an unbinding, which have one step after their turn
 abbrev pub BindsAt : SeatState → Type 0
 BindsAt me = (lane : End) × (address : ℕ) × (WorkAt me lane (work.Bind address) ⊎ WorkAt me lane (work.Unbind address))
 
@@ -494,13 +494,13 @@ abbrev pub StoresEntry : Ring → SeatState → SeatState → Type 0
 StoresEntry ring.Forward me me' = SendStoresEntry me me'
 StoresEntry ring.Return me me' = GiveStoresEntry me me'
 
--- a send publishes the count behind its number, with its message in its buffer, which is the last slot that is out
+-- a send publishes the count after its number, with its message in its buffer, which is the last slot that is out
 pub record SendPublishesAt (lane : End) (number : ℕ) (me : SeatState) : Type 0 where
   pub at : SendAt me lane stage.Entry
   pub count : at.side.accepted + 1 ≡ number
   pub slots : me.1 ≡ (buffer_slot me.0.sizes.to_host.capacity lane at.buffer, Buffer at.message) ∷ rest me.1
 
--- a give publishes the count behind that of its entry
+-- a give publishes the count after that of its entry
 pub record GivePublishesAt (lane : End) (number : ℕ) (me : SeatState) : Type 0 where
   pub given : ℕ
   pub at : WorkAt me lane (work.Give given give_stage.Entry)

@@ -166,7 +166,7 @@ abbrev pub sizes_at : LinkSizes → End → RingSizes
 sizes_at z side.Host = z.to_host
 sizes_at z side.Remote = z.to_remote
 
--- where the words and slots of a lane stand
+-- where the words and slots of a lane are
 abbrev pub sender_word : End → ℕ
 sender_word side.Host = 2
 sender_word side.Remote = 4
@@ -183,12 +183,12 @@ abbrev pub receiver_word : End → ℕ
 receiver_word side.Host = 3
 receiver_word side.Remote = 5
 
--- how many entries stand before those of a lane
+-- how many entries are before those of a lane
 abbrev pub entries_before : LinkSizes → End → ℕ
 entries_before z side.Host = 0
 entries_before z side.Remote = z.to_host.entries + z.to_host.entries
 
--- how many entries of a lane stand before those of one of its rings
+-- how many entries of a lane are before those of one of its rings
 abbrev pub ring_before : RingSizes → Ring → ℕ
 ring_before sizes ring.Forward = 0
 ring_before sizes ring.Return = sizes.entries

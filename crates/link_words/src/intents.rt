@@ -1,4 +1,4 @@
-//! What a caller wishes, as its first step is told it.
+//! What a caller wishes, as its first step is given it.
 ghost use Rattle.std.specs.Prelude.{◌≡◌, ◌≤◌, length};
 ghost use Rattle.lane_model.specs.declared.calls.Wish.TheVariants as wish;
 ghost use Rattle.link_words.specs.Layouts.{place_in};

@@ -42,7 +42,7 @@ ghost use Rattle.link_words.specs.Steps.{IsStepOf, IsCloseOf, ClosesLink, MakesC
 
 use lane_model::Desk;
 
-/// The rule holds of the table of a new link, whatever stands in its buffers: its words are those of a new link of the ring form, each
+/// The rule holds of the table of a new link, whatever is in its buffers: its words are those of a new link of the ring form, each
 /// slot is at home, and the manager has the one seat, with the copy of that link, whose desks are those that the seats of their tables know.
 pub fn opening_meets_rule<D: Desk>()
     ensures { (config : LinkConfig) (desks : DeskTables) (host remote : D) (to_host to_remote : List (List ℕ)) → IsConfig config → config.first < 2 ^ 32
@@ -52,7 +52,7 @@ pub fn opening_meets_rule<D: Desk>()
 {}
 
 /// The state that a table shows, between any two steps: it is sound, each buffer of a lane has exactly one place, and the two counts
-/// behind the indexes of a lane are at most its capacity apart.
+/// of the indexes of a lane are at most its capacity apart.
 pub fn shown_state<D: Desk>()
     ensures sound { (z : LinkSizes) (s : State Slot View) (m : LaneLink (RingState (PlacedDesk D.row.coded z.desks))) (p : ℕ) → Shows (placed_coded D.row.coded z.desks) (placed_meaning D.row.coded z.desks D.meaning) z s m p → SoundLink (link_of (ring_form (placed_meaning D.row.coded z.desks D.meaning)) m) }
     ensures owner { (z : LinkSizes) (s : State Slot View) (m : LaneLink (RingState (PlacedDesk D.row.coded z.desks))) (p : ℕ) → Shows (placed_coded D.row.coded z.desks) (placed_meaning D.row.coded z.desks D.meaning) z s m p
@@ -63,8 +63,8 @@ pub fn shown_state<D: Desk>()
         → EachPass (λ q. (e : End) → IsWithin (seen e m.era.inc q.own) (counts_of (books_of (lane_to m e)))) s.views }
 {}
 
-/// The counts of a lane never go back for a caller. Where a look or a give comes behind a list and no count that it tells is below what
-/// was seen (`NeverBack`), it tells no count of that lane and incarnation that is below one that a step of the list told: a look or
+/// The counts of a lane never go back for a caller. Where a look or a give comes after a list and no count that it says is below what
+/// was seen (`NeverBack`), it says no count of that lane and incarnation that is below one that a step of the list told: a look or
 /// a give, the acceptance of a message, or a handing. So a caller reads its own give back: a look for room finds at least as many
 /// buffers back, and its next give makes more.
 pub fn never_back()

@@ -1,5 +1,5 @@
-//! Where the words of a link stand in its table: the idle word, the era, the four turns and the four indexes 16 words apart, and
-//! the entries behind them 8 words apart, so that words which different ends write are on cache lines of their own.
+//! Where the words of a link are in its table: the idle word, the era, the four turns and the four indexes 16 words apart, and
+//! the entries after them 8 words apart, so that words which different ends write are on cache lines of their own.
 ghost use Rattle.std.specs.Prelude.{◌≡◌, ◌≤◌, ◌+◌, ◌*◌};
 ghost use Rattle.rp_base.specs.declared.limits.TheConstants.{RING_MOST};
 ghost use Rattle.link_words.specs.Words.{other, sizes_at, entries_before, ring_before, entry_number, IsSized, sender_word, receiver_word, forward_word, return_word};
@@ -79,7 +79,7 @@ fn entries_in(sizes: &LinkSizes, lane: End) -> u64
     }
 }
 
-/// How many entries stand before those of a ring.
+/// How many entries are before those of a ring.
 #[inline(always)]
 fn entries_before(sizes: &LinkSizes, lane: End, ring: Ring) -> u64
     requires { IsSized sizes.now }

@@ -28,7 +28,7 @@ fn turn_place(lane: End, turn: LaneTurn) -> usize
     }
 }
 
-/// Where the word stands that a reopening resets behind so many others: an index, then an entry.
+/// Where the word is that a reopening resets after so many others: an index, then an entry.
 pub fn reset_place(number: u64) -> usize
     requires { number < 4294967296 }
     ensures { result ≡ place_in (6 + number) }
@@ -103,7 +103,7 @@ pub fn begin_reopening<D: Desk>(table: &LinkTable<D>, manager: &mut LinkSeat) ->
     table.load::<TellsBeginsReopening>(manager, ERA_PLACE)
 }
 
-/// A reopening stores what an index or an entry is in a new incarnation, behind so many others.
+/// A reopening stores what an index or an entry is in a new incarnation, after so many others.
 pub fn reset_index<D: Desk>(table: &LinkTable<D>, manager: &mut LinkSeat, number: u64, new: u64)
     requires table { (manager.old.table_id ≡ table.now.table_id) × (words_in table.now.key ≤ table.now.table_id.words) × (manager.old.me.0.sizes ≡ table.now.key) }
     requires number { (number < 4294967296) × (place_in (6 + number) < table.now.table_id.words) }

@@ -10,7 +10,7 @@ use rp_base::{CallerNo, End, Era, Inc, Message};
 use std::collections::LinkedList;
 use std::marker::PhantomData;
 
-/// The sizes of a link, which its table is told once, when it is made.
+/// The sizes of a link, which its table is given once, when it is made.
 #[derive(Drop)]
 pub struct LinkSizes {
     pub to_host: RingSizes,

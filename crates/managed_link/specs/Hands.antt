@@ -10,7 +10,7 @@ use Rattle.managed_link.specs.declared.hands.Hand.{Hand}
 abbrev pub holding_of : Hand → Holding
 holding_of hand = record { number = hand.number; caller = hand.caller }
 
--- the buffer of the message of this number, in the hands of this caller, stands at this place
+-- the buffer of the message of this number, in the hands of this caller, is at this place
 pub record IsHandAt (hands : List Hand) (number caller place : ℕ) (hand : Hand) : Type 0 where
   pub here : get_elem? hands place ≡ some hand
   pub numbered : hand.number ≡ number
@@ -19,7 +19,7 @@ pub record IsHandAt (hands : List Hand) (number caller place : ℕ) (hand : Hand
 abbrev pub IsAtPlace : List Hand → ℕ → ℕ → ℕ → Type 0
 IsAtPlace hands number caller place = (hand : Hand) × IsHandAt hands number caller place hand
 
--- what stood in its place goes out of it
+-- what was in its place goes out of it
 abbrev pub IsTakenOut : ℕ → ℕ → Option HeldBuffer → List Hand → List Hand → Type 0
 IsTakenOut number caller out before after = (place : ℕ) × (hand : Hand) × IsHandAt before number caller place hand × (out ≡ hand.held) × (after ≡ slice_set before place (record hand { held = None }))
 
@@ -27,7 +27,7 @@ IsTakenOut number caller out before after = (place : ℕ) × (hand : Hand) × Is
 abbrev pub IsPutIn : HeldBuffer → List Hand → List Hand → Type 0
 IsPutIn held before after = (place : ℕ) × (hand : Hand) × IsHandAt before held.number held.caller place hand × (after ≡ slice_set before place (record hand { held = Some held }))
 
--- each of these stands among those
+-- each of these is among those
 abbrev pub AreSome : List Hand → List Hand → Type 0
 AreSome before after = (place : ℕ) (hand : Hand) → get_elem? after place ≡ some hand → (was : ℕ) × (get_elem? before was ≡ some hand)
 

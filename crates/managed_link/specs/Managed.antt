@@ -1,4 +1,4 @@
--- What the parts of a managed link keep: the manager carries each caller, in its call or in none, and what the link's state says stands beside (own).
+-- What the parts of a managed link keep: the manager carries each caller, in its call or in none, and what the link's state says is beside (own).
 use Rattle.std.specs.Prelude.{◌≡◌, ◌≤◌, ◌<◌, ℕ, true, List, [], length, map, replicate, slice_get, Option, None, Some, IfSome, option_and_then, Vec, vec_capacity}
 use mathlib.Core.Option.{some}
 use lib.ListN.{get_elem?}
@@ -115,7 +115,7 @@ pub record IsManaged (shared : SharedLink EndState) (manager : Manager) (calls :
 abbrev pub IsOfCaller : Option ℕ → Type 0
 IsOfCaller found = IfSome found (λ caller. caller < CALLERS_MOST)
 
--- what stands beside: the era, the counts of both lanes and who has their turns; no receiver's turn is the manager's
+-- what is beside: the era, the counts of both lanes and who has their turns; no receiver's turn is the manager's
 pub record ShowsViews (era : Era) (to_host to_remote : LaneView) (m : LinkRings) : Type 0 where
   pub era_is : era ≡ m.era
   pub host_is : to_host ≡ view_of m.to_host.lane

@@ -1,4 +1,4 @@
--- What is known of the lanes of a caller behind the steps of its calls (own).
+-- What is known of the lanes of a caller after the steps of its calls (own).
 use Rattle.std.specs.Prelude.{◌≡◌, ◌≢◌, ℕ, List, Option, Some, None}
 use Rattle.rp_base.specs.declared.kinds.End.{End}
 use Rattle.rp_base.specs.declared.kinds.End.TheVariants as side
@@ -71,7 +71,7 @@ abbrev pub hands_learnt : Option CallEnd → ℕ → List Hand → List Hand
 hands_learnt None caller hands = hands
 hands_learnt (Some ended) caller hands = with_new_hand ended caller hands
 
--- a call stands in a slot that has done no step, and asks for what is wished; it gives this buffer back, if any
+-- a call is in a slot that has done no step, and asks for what is wished; it gives this buffer back, if any
 pub record IsAsking (follows : ℕ) (wished : Wish) (given : Option HeldBuffer) (slot : Option CarriedCall) : Type 0 where
   pub call : RingCall EndState
   pub asked : Ask

@@ -34,7 +34,7 @@ fn no_calls(alloc: Global) -> Result<Vec<CallSlot>, NoMemory>
 impl ManagedLink {
     /// A new link of these ends, live in its first incarnation, with no caller. It takes all its room at once, so of the later calls a reopening, a snapshot and a list of channels alone take memory.
     ///
-    /// Errors: only for want of memory.
+    /// Errors: only if memory runs out.
     pub fn make(
         alloc: Global,
         config: LinkConfig,

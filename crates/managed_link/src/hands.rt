@@ -117,7 +117,7 @@ pub(crate) fn least_held(hands: &[Hand]) -> Option<(CallerNo, u64)>
     least
 }
 
-/// Where the buffer of the message of this number stands, which this caller holds.
+/// Where the buffer of the message of this number is, which this caller holds.
 pub(crate) fn place_of(hands: &[Hand], number: u64, caller: CallerNo) -> usize
     requires { holds (map holding_of hands.now) number caller ≡ true }
     ensures { IsAtPlace hands.now number caller result }

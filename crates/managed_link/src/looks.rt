@@ -91,7 +91,7 @@ impl ManagedLink {
 
     /// The channels of the host end, in the order of creation.
     ///
-    /// Errors: [`SnapshotFault::StillTurn`] exactly where the receiver's turn of the lane to the host is out, or want of memory.
+    /// Errors: [`SnapshotFault::StillTurn`] exactly where the receiver's turn of the lane to the host is out, or out of memory.
     pub fn channels(&mut self, alloc: Global) -> Result<Vec<Channel>, SnapshotFault>
         ensures same { self.new ≡ self.old }
         ensures free { OnOk result (holder (lists_of self.old).to_host.receiver ≡ None) }
@@ -111,10 +111,10 @@ impl ManagedLink {
         }
     }
 
-    /// The era and the words of both lanes as they stand, with the buffers from address 0 on, those of the lane to the host first.
+    /// The era and the words of both lanes as they are, with the buffers from address 0 on, those of the lane to the host first.
     ///
     /// Errors: [`SnapshotFault::StillTurn`] exactly where a turn is out, with the holder of the first: of the sender's and the receiver's of the lane to the host, then of the
-    /// other; else only want of memory.
+    /// other; else only out of memory.
     pub fn snapshot(&mut self, alloc: Global) -> Result<Snapshot, SnapshotFault>
         ensures same { self.new ≡ self.old }
         ensures free { OnOk result (turns_out self.old ≡ None) }

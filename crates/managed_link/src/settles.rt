@@ -1,4 +1,4 @@
-//! What a call of a managed link takes from the buffers in hand and brings to them, and what stands beside once its end is settled.
+//! What a call of a managed link takes from the buffers in hand and brings to them, and what is beside once its end is settled.
 ghost use Rattle.std.specs.Prelude.{◌≡◌, ◌<◌, ◌^◌, map, Option, Some, MatchOption, vec_capacity};
 ghost use Rattle.lane_model.specs.HeldBuffers.{HeldBuffer};
 ghost use Rattle.managed_link.specs.Hands.{AreSome, IsTakenOut, holding_of};

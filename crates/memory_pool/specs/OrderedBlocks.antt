@@ -8,7 +8,7 @@ use Rattle.memory_pool.specs.declared.blocks.Block.{Block}
 use Rattle.memory_pool.specs.declared.wanted.Wanted.{Wanted}
 use Rattle.memory_pool.specs.declared.wanted.Wanted.TheVariants as wanted
 
--- blocks in the order of their first addresses, and of those behind them (own)
+-- blocks in the order of their first addresses, and of those after them (own)
 pub record IsOrdered (blocks : List Block) : Type 0 where
   pub starts : IsNonDecreasingBy (λ block. block.da) blocks
   pub ends : IsNonDecreasingBy (λ block. block.da + block.len) blocks

@@ -35,7 +35,7 @@ has_wrong_range regions region =
     || nat_lt (2 ^ 32) (region.pa + region.len)
     || nat_lt MEMORY_MOST (memory_len regions + region.len)
 
--- the tests of a region that is added behind others (own)
+-- the tests of a region that is added after others (own)
 abbrev pub region_fault : List Region → Region → Option RegionFault
 region_fault regions region = first_fault
     (fault_if (nat_le REGIONS_MOST (length regions)) fault.RegionsFull

@@ -4,7 +4,7 @@ ghost use Rattle.memory_pool.specs.Faults.{place_fault_index, place_fault_number
 use rp_base::NoMemory;
 use thiserror::Error;
 
-/// Why a region is not added. Each but want of memory is written as the word `fault`, a space and its
+/// Why a region is not added. Each but out of memory is written as the word `fault`, a space and its
 /// number.
 #[derive(Clone, Copy, Debug, PartialEq, Eq, Error)]
 pub enum RegionFault {
@@ -23,7 +23,7 @@ pub enum RegionFault {
 }
 
 impl RegionFault {
-    /// The number of the fault, from 30 to 32, and none for want of memory.
+    /// The number of the fault, from 30 to 32, and none for out of memory.
     pub fn number(self) -> Option<u8>
         ensures { result ≡ region_fault_number self }
     {
@@ -37,7 +37,7 @@ impl RegionFault {
 }
 
 /// Why what a resource table asks for is not placed, with the number of the entry, from 0. Each but
-/// want of memory is written as the word `fault`, a space and its number.
+/// out of memory is written as the word `fault`, a space and its number.
 #[derive(Clone, Copy, Debug, PartialEq, Eq, Error)]
 pub enum PlaceFault {
     /// No pool holds a block at its given address.
@@ -61,7 +61,7 @@ pub enum PlaceFault {
 }
 
 impl PlaceFault {
-    /// The number of the fault, from 33 to 37, and none for want of memory.
+    /// The number of the fault, from 33 to 37, and none for out of memory.
     pub fn number(self) -> Option<u8>
         ensures { result ≡ place_fault_number self }
     {
@@ -75,7 +75,7 @@ impl PlaceFault {
         }
     }
 
-    /// The number of the entry that the fault is about, from 0, and none for want of memory.
+    /// The number of the entry that the fault is about, from 0, and none for out of memory.
     pub fn index(self) -> Option<u16>
         ensures { result ≡ place_fault_index self }
     {

@@ -21,12 +21,12 @@ pub struct Placed {
     pub blocks: Vec<Block>,
 }
 
-/// Places all that a resource table asks for. What has a device address of its own stands there; then
+/// Places all that a resource table asks for. What has a device address of its own is there; then
 /// each other block is placed at the least aligned device address of the first pool that has room.
 /// A ring takes [`vring_layout::vring_size`] bytes, and the buffers of the device for RPMsg 512 bytes
 /// for each that its lanes have.
 ///
-/// Errors: the first refusal that is met on that way, or want of memory.
+/// Errors: the first refusal that is met on that way, or out of memory.
 pub fn place(alloc: Global, regions: &Regions, table: &Table<'_>) -> Result<Placed, PlaceFault>
     ensures placed { IfOk result (λ placed. placement regions.now (entries_of table.now) ≡ Ok placed.blocks.items) }
     ensures refused { IfErr result (λ refused. refused ≢ fault.NoMemory → placement regions.now (entries_of table.now) ≡ Err refused) }

@@ -36,7 +36,7 @@ impl Placing {
         Ok(Placing { blocks, memory })
     }
 
-    /// Keeps a block behind the others.
+    /// Keeps a block after the others.
     pub(crate) fn keep(&mut self, block: Block) -> Result<(), NoMemory>
         requires new { IsNewBlock self.old.blocks.items block }
         requires ordered { IsMemoryOf self.old.blocks.items self.old.memory.items }
@@ -152,7 +152,7 @@ impl Placing {
     }
 }
 
-/// Whether a range of device addresses meets blocks, which stand in the order of their addresses. It
+/// Whether a range of device addresses meets blocks, which are in the order of their addresses. It
 /// takes time logarithmic in their number.
 fn meets_memory(memory: &[Block], da: Da, len: u32) -> bool
     requires { IsOrdered memory.now }

@@ -16,7 +16,7 @@ pub(crate) fn lies_within(start: u32, len: u32, other: u32, other_len: u32) -> b
     other <= start && range_end(start, len) <= range_end(other, other_len)
 }
 
-/// The address behind a range.
+/// The address after a range.
 pub(crate) fn range_end(start: u32, len: u32) -> u64
     ensures end { result ≡ start + len }
     ensures most { result < 2 ^ 33 }

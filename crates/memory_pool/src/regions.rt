@@ -29,7 +29,7 @@ const STANDARD_REGIONS: [Region; 2] = [
     },
 ];
 
-/// The address behind the last one.
+/// The address after the last one.
 pub(crate) const ADDRESSES_END: u64 = 4_294_967_296;
 
 /// A region of a core's memory.
@@ -111,7 +111,7 @@ impl Regions {
 
     /// No regions.
     ///
-    /// Errors: only for want of memory.
+    /// Errors: only if memory runs out.
     pub fn new(alloc: Global) -> Result<Regions, NoMemory>
         ensures { IfOk result (λ regions. regions ≡ []) }
     {
@@ -122,7 +122,7 @@ impl Regions {
     /// The regions of a core that declares none: 65,536 bytes that are always mapped, at device
     /// address 0, and 1,048,576 bytes in which blocks are placed, at device address 0x10000000.
     ///
-    /// Errors: only for want of memory.
+    /// Errors: only if memory runs out.
     pub fn standard(alloc: Global) -> Result<Regions, NoMemory>
         ensures { IfOk result (λ regions. regions ≡ standard_regions) }
     {
@@ -162,7 +162,7 @@ impl Regions {
         memory_len(&self.items) as u32
     }
 
-    /// Adds a region behind the others, and answers its number.
+    /// Adds a region after the others, and answers its number.
     ///
     /// Errors, in this order: there are sixteen regions; the region is empty, ends past the addresses,
     /// or makes the memory of all larger than 16 MiB; its device or physical addresses meet those of a
@@ -183,7 +183,7 @@ impl Regions {
     }
 }
 
-/// Tests a region that is to be added behind sound ones.
+/// Tests a region that is to be added after sound ones.
 fn test_region(regions: &[Region], region: &Region) -> Result<(), RegionFault>
     requires { SoundRegions regions.now }
     ensures { result_err result ≡ region_fault regions.now region.now }

@@ -105,7 +105,7 @@ fn push_wanted(all: &mut Vec<Wanted>, index: u16, entry: &Entry) -> Result<(), N
     Ok(())
 }
 
-/// Appends the rings of a device, and behind them the buffers of one for RPMsg.
+/// Appends the rings of a device, and after them the buffers of one for RPMsg.
 fn push_device(all: &mut Vec<Wanted>, index: u16, device: &Vdev) -> Result<(), NoMemory>
     requires { IsSoundDevice device.now }
     ensures { OnOk result (all.new.items ≡ all.old.items ++ (rings_wanted index device.now ++ buffers_wanted index device.now)) }

@@ -53,7 +53,7 @@ kind_of channels ns =
 abbrev pub without : Key → List Channel → List Channel
 without key channels = filter (λ channel. not (is_same_key key (key_of channel))) channels
 
--- a new channel, without an endpoint, behind the others
+-- a new channel, without an endpoint, after the others
 abbrev pub with_channel : Key → List Channel → List Channel
 with_channel key channels = channels ++ (record { name = key.0; address = key.1; endpoint = None }) ∷ []
 

@@ -51,7 +51,7 @@ type Table = IndexMap<(Name, u32), Option<Endpoint>>;
 impl Channels {
     /// No channel, with room for 64.
     ///
-    /// Errors: only for want of memory.
+    /// Errors: only if memory runs out.
     pub fn new(alloc: Global) -> Result<Channels, NoMemory>
         ensures { IfOk result (λ channels. channels ≡ []) }
     {
@@ -62,7 +62,7 @@ impl Channels {
     }
 
     /// Makes or removes the channel of a service message, and says what it did. A channel is
-    /// known by its name and its address. It is made without an endpoint, behind the others.
+    /// known by its name and its address. It is made without an endpoint, after the others.
     pub fn apply(&mut self, ns: &NsMessage) -> NsKind
         ensures kind { result ≡ kind_of self.old ns.now }
         ensures left { self.new ≡ after_service self.old ns.now }
@@ -132,7 +132,7 @@ impl Channels {
 
     /// All channels, in the order of creation.
     ///
-    /// Errors: only for want of memory.
+    /// Errors: only if memory runs out.
     pub fn to_vec(&self, alloc: Global) -> Result<Vec<Channel>, NoMemory>
         ensures { IfOk result (λ channels. channels.items ≡ self.now) }
     {

@@ -1,4 +1,4 @@
-// The records of a worker's code, as they stand in the memory of a remote core.
+// The records of a worker's code, as they are in the memory of a remote core.
 #![tactic(auto)]
 
 mod faults;

@@ -33,7 +33,7 @@ pub enum Record {
 }
 
 impl Record {
-    /// The record in these bytes, with its operands as they stand. Bytes of fields that the
+    /// The record in these bytes, with its operands as they are. Bytes of fields that the
     /// operation doesn't name are passed over.
     ///
     /// Errors: `UnknownOp` exactly where the operation is above 8.

@@ -5,7 +5,7 @@ use Rattle.addr_translate.specs.Maps.{Mapping, place_at}
 use Rattle.remote_code.specs.declared.faults.WorkerFault.{WorkerFault}
 use Rattle.remote_code.specs.declared.faults.WorkerFault.TheVariants.{CodeUnmapped}
 
--- where the bytes stand that a record names; of no bytes no address is looked up
+-- where the bytes are that a record names; of no bytes no address is looked up
 abbrev pub named_place : Mapping → ℕ → ℕ → Result ℕ WorkerFault
 named_place map da len = if len == 0 then Ok 0 else ok_or (place_at map da len) CodeUnmapped
 

@@ -63,7 +63,7 @@ admitted linked op =
 abbrev pub with_memory : Mapping → Record → Result Record WorkerFault
 with_memory map op = if names_memory map op then Ok op else Err CodeUnmapped
 
--- a record that stood so far, tested further
+-- a record that passed so far, tested further
 abbrev pub tested : (Record → Result Record WorkerFault) → Result Record WorkerFault → Result Record WorkerFault
 tested test (Ok op) = test op
 tested test (Err fault) = Err fault

@@ -5,7 +5,7 @@ use addr_translate::Map;
 use remote_code::WorkerFault;
 use rp_base::Da;
 
-/// Where bytes stand that a record names. Of no bytes no address is looked up.
+/// Where bytes are that a record names. Of no bytes no address is looked up.
 pub(crate) fn named_place(map: &Map, da: Da, len: u32) -> Result<u32, WorkerFault>
     ensures place { result ≡ named_place map.now da len }
     ensures inside { IfOk result (λ at. at + len ≤ map.now.memory_len) }

@@ -37,7 +37,7 @@ pub enum Task {
     Fault(WorkerFault),
 }
 
-/// The worker of a remote core. It runs the records that stand at the entry of its image, of 16 bytes
+/// The worker of a remote core. It runs the records that are at the entry of its image, of 16 bytes
 /// each. Contracts see the device address of record 0, the number of the record that it runs next, the
 /// turns of its loops, the source of the last whole message that it took, and whether it has ended.
 #[derive(Drop)]
@@ -68,7 +68,7 @@ impl Worker {
     ghost use Rattle.remote_core.specs.Records.{next_record};
     ghost use Rattle.remote_core.specs.Works.{work_of, work_with, done_with, after_work, memory_after, work_of_next, after_record, after_next, memory_after_next, IsFitWork};
 
-    /// A worker that stands at its first record, and took no message yet.
+    /// A worker that is at its first record, and took no message yet.
     pub fn new(entry: Da) -> Worker
         ensures { result ≡ new_worker entry }
     {
@@ -107,7 +107,7 @@ impl Worker {
         }
     }
 
-    /// Runs one record as [`Worker::next`] does. The call that it asks for becomes the wish; what stands
+    /// Runs one record as [`Worker::next`] does. The call that it asks for becomes the wish; what is
     /// there after another record counts for nothing.
     pub fn work(
         &mut self,
@@ -170,7 +170,7 @@ impl Worker {
         Ok(task)
     }
 
-    /// Goes on behind a record that was run.
+    /// Goes on after a record that was run.
     fn advance(&mut self, op: Record)
         requires { self.old.place < 2 ^ 28 }
         ensures { self.new ≡ after_record op self.old }

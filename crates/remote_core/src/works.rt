@@ -78,7 +78,7 @@ fn send(wish: &mut Wish, head: &[u8], body: &[u8])
     }
 }
 
-/// The payload of an announcement: the first [`NAME_MOST`] bytes of the name as they stand and a 0, then the
+/// The payload of an announcement: the first [`NAME_MOST`] bytes of the name as they are and a 0, then the
 /// address and the flags.
 fn announcement(name: &[u8], address: u32, flags: u32) -> [u8; 40]
     requires { length name.now ≡ NAME_MOST }

@@ -1,4 +1,4 @@
--- Where the fields of a resource table stand (Linux include/linux/remoteproc.h). Numbers are little-endian.
+-- Where the fields of a resource table are (Linux include/linux/remoteproc.h). Numbers are little-endian.
 use Rattle.std.specs.Prelude.{ℕ, ◌+◌, List}
 use Rattle.rp_base.specs.Fields.{number_at}
 

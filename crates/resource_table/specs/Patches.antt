@@ -76,6 +76,6 @@ patch_writes bytes fixes =
 abbrev pub patched_of : List ℕ → List Fix → List ℕ
 patched_of bytes fixes = after_writes (patch_writes bytes fixes) bytes
 
--- a place that a write leaves as it is: it stands before the field or behind it (own)
+-- a place that a write leaves as it is: it is before the field or after it (own)
 abbrev pub LeavesPlace : ℕ → Write → Type 0
 LeavesPlace place write = (place < write.at) ⊎ (write.at + write.width ≤ place)

@@ -101,7 +101,7 @@ abbrev pub rings_fault : List ℕ → ℕ → ℕ → Option TableFault
 rings_fault bytes index start =
     first_fault (map (ring_fault_at bytes index start) (range_with_len 0 (ring_count bytes start)))
 
--- the tests of a device behind its fixed part (struct fw_rsc_vdev)
+-- the tests of a device after its fixed part (struct fw_rsc_vdev)
 abbrev pub device_fault : List ℕ → ℕ → ℕ → Option TableFault
 device_fault bytes index start = first_fault
     (fault_if (has_wrong_ring_count bytes start) (fault.RingCount index)
@@ -109,7 +109,7 @@ device_fault bytes index start = first_fault
     ∷ rings_fault bytes index start
     ∷ [])
 
--- the tests behind the fixed part, by the type of the entry (own)
+-- the tests after the fixed part, by the type of the entry (own)
 abbrev pub varying_fault : ResourceType → List ℕ → ℕ → ℕ → Option TableFault
 varying_fault type.Vdev bytes index start = device_fault bytes index start
 varying_fault _ bytes index start = None
@@ -128,7 +128,7 @@ abbrev pub entry_span : List ℕ → ℕ → Span
 entry_span bytes index =
     record { from = start_of bytes index; to = start_of bytes index + entry_size bytes (start_of bytes index) }
 
--- what stands in a table before the entry of a number: the header with the offsets, and the earlier entries (own)
+-- what is in a table before the entry of a number: the header with the offsets, and the earlier entries (own)
 abbrev pub earlier_spans : List ℕ → ℕ → List Span
 earlier_spans bytes index = record { from = 0; to = offsets_end bytes } ∷ map (entry_span bytes) (range_with_len 0 index)
 

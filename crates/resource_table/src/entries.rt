@@ -8,7 +8,7 @@ ghost use Rattle.rp_base.specs.declared.limits.TheConstants.{NAME_MOST};
 use crate::kinds::ResourceType;
 use rp_base::{Da, NAME_MOST, Name, Pa, u32_at};
 
-/// The bytes of the fixed part of a device, behind which its rings stand.
+/// The bytes of the fixed part of a device, after which its rings are.
 pub(crate) const VDEV_SIZE: usize = 28;
 
 /// The bytes of a ring of a device.

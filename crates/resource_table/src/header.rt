@@ -8,7 +8,7 @@ use crate::ENTRIES_MOST;
 use crate::faults::TableFault;
 use rp_base::{u32_at, u64_at};
 
-/// The bytes of the header, behind which the offsets stand.
+/// The bytes of the header, after which the offsets are.
 const HEADER_SIZE: usize = 16;
 
 /// The version of tables that are read.

@@ -65,7 +65,7 @@ pub(crate) fn entry_span(bytes: &[u8], index: u16) -> Span
 
 /// Whether a span meets the header, the offsets or one of the first entries, so many of them, which
 /// all end at `end` or before. The earlier entries are looked at only where the span begins before
-/// that, so a table whose entries stand in the order of its offsets takes one comparison for each.
+/// that, so a table whose entries are in the order of its offsets takes one comparison for each.
 pub(crate) fn meets_earlier(bytes: &[u8], span: Span, index: u16, end: usize) -> bool
     requires size { 16 ≤ length bytes.now }
     requires among { 16 + 4 * index ≤ length bytes.now }

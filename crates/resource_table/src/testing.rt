@@ -42,7 +42,7 @@ pub(crate) fn test_entries(bytes: &[u8]) -> Result<(), TableFault>
     Ok(())
 }
 
-/// Tests the entry of a number: its own bytes, and whether it stands beside the earlier ones.
+/// Tests the entry of a number: its own bytes, and whether it is beside the earlier ones.
 fn test_entry(bytes: &[u8], index: u16, earlier: &mut Earlier) -> Result<(), TableFault>
     requires among { 16 + 4 * (index + 1) ≤ length bytes.now }
     requires earlier { IsEarlier bytes.now index earlier.old }

@@ -1,4 +1,4 @@
--- Who has a buffer: the places that it stands in (own).
+-- Who has a buffer: the places that it is in (own).
 use Rattle.std.specs.Prelude.{ℕ, zero, suc, ◌+◌, ◌-◌, ◌==◌, Bool, true, false, nat_lt, if◌then◌else◌, List, [], ◌∷◌, ◌++◌, length}
 use Rattle.lane_model.specs.declared.stages.Sending.{Sending}
 use Rattle.lane_model.specs.declared.stages.Receiving.{Receiving}
@@ -119,7 +119,7 @@ receiver_is_out turn.Manager = false
 abbrev pub source_place : ℕ → ℕ → Place
 source_place own number = if nat_lt number own then InOwnList number else InReturnRing number
 
--- the places of a buffer that stands at one end of a window: with the call that has the window's first buffer out, or in the window
+-- the places of a buffer that is at one end of a window: with the call that has the window's first buffer out, or in the window
 abbrev pub places_out : Bool → Place → (ℕ → ℕ) → (ℕ → Place) → ℕ → ℕ → ℕ → ℕ → List Place
 places_out true out buffer_of place id having first count =
     place_if having id out ++ places_between buffer_of place id (first + 1) (count - 1)

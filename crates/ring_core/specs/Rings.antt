@@ -1,4 +1,4 @@
--- Where the words of a lane stand in its rings (VIRTIO 1.2 sections 2.7.6 and 2.7.8; which entry and which buffer is own).
+-- Where the words of a lane are in its rings (VIRTIO 1.2 sections 2.7.6 and 2.7.8; which entry and which buffer is own).
 use Rattle.std.specs.Prelude.{ℕ, ◌+◌, ◌-◌, ◌%◌, ◌==◌, Bool, nat_lt, if◌then◌else◌, List, [], ◌++◌, map, replicate, slice_index_or}
 use Rattle.std.specs.List.{range_with_len}
 use Rattle.rp_base.specs.Limits.{ring_capacity}
@@ -39,7 +39,7 @@ abbrev pub opened_returns : RingSizes → List UsedWord
 opened_returns sizes =
     map entry_of (range_with_len sizes.own (sizes.capacity - sizes.own)) ++ replicate (sizes.entries - (sizes.capacity - sizes.own)) (entry_of 0)
 
--- the rings of a new incarnation, over buffers in which anything may stand
+-- the rings of a new incarnation, over buffers in which anything may be
 abbrev pub opened_rings : RingSizes → List (List ℕ) → Rings
 opened_rings sizes buffers = record {
   sizes = sizes;

@@ -43,7 +43,7 @@ pub record IsCounted (accepted handed returned hands aside capacity book : ℕ) 
   pub within : accepted ≤ book
   pub most : book ≤ BOOK_MOST
 
--- a buffer of the lane stands in one place, and no other number stands anywhere. A buffer that a call has out counts in the
+-- a buffer of the lane is in one place, and no other number is anywhere. A buffer that a call has out counts in the
 -- window that it came from, whose first it is
 pub record HasOneOwner (sizes : RingSizes) (accepted handed returned : ℕ) (forward returns : List UsedWord) (hands : List Hand) (aside : List ℕ) : Type 0 where
   pub times : (id : ℕ) → times_between (source_buffer sizes.entries sizes.own returns) id accepted (sizes.capacity + returned - accepted)
@@ -55,12 +55,12 @@ pub record HasOneOwner (sizes : RingSizes) (accepted handed returned : ℕ) (for
 pub record AreApart (handed : ℕ) (hands : List Hand) : Type 0 where
   pub times : (number : ℕ) → times_numbered hands number ≤ once_below number handed
 
--- each message that was accepted and not handed over stands in the buffer that its entry names
+-- each message that was accepted and not handed over is in the buffer that its entry names
 pub record AreFilled (entries : ℕ) (forward : List UsedWord) (buffers : List (List ℕ)) (book : List BookEntry) (handed : ℕ) : Type 0 where
   pub message : (number : ℕ) → handed ≤ number → number < length book
       → slice_index_or buffers (buffer_at entries forward number) [] ≡ message_at book number
 
--- what a send has read and stored stands: the buffer that it has out, the forward entry, the message in the buffer
+-- what a send has read and stored still holds: the buffer that it has out, the forward entry, the message in the buffer
 abbrev pub HasSource : RingSizes → List UsedWord → List UsedWord → List (List ℕ) → ℕ → ℕ → List ℕ → SendStage → Type 0
 HasSource sizes forward returns buffers sending accepted message stage.Turn = Unit {0}
 HasSource sizes forward returns buffers sending accepted message stage.Era = Unit {0}
@@ -83,14 +83,14 @@ HasGiven sizes returns hands returned number give_stage.Turn = Unit {0}
 HasGiven sizes returns hands returned number give_stage.Entry =
     buffer_at sizes.entries returns (return_count sizes returned) ≡ held_buffer hands number
 
--- what a call that has the receiver's turn has read or stored stands
+-- what a call that has the receiver's turn has read or stored still holds
 abbrev pub HasWork : RingSizes → List UsedWord → List UsedWord → List Hand → ℕ → ℕ → ℕ → Work → Type 0
 HasWork sizes forward returns hands taking handed returned (work.Take stage) = HasTaken sizes.entries forward taking handed stage
 HasWork sizes forward returns hands taking handed returned (work.Give number stage) = HasGiven sizes returns hands returned number stage
 HasWork sizes forward returns hands taking handed returned (work.Bind address) = Unit {0}
 HasWork sizes forward returns hands taking handed returned (work.Unbind address) = Unit {0}
 
--- sound rings: their words stand for the counts of the lists, each buffer has one owner, and what each call has found stands
+-- sound rings: their words stand for the counts of the lists, each buffer has one owner, and what each call has found still holds
 pub record IsSoundRings {D : Type 0} (s : RingState D) : Type 0 where
   pub sized : IsSized s.rings.sizes s.rings.forward s.rings.returns s.rings.buffers s.lane.lane.capacity
   pub counted : IsCounted (length s.lane.lane.accepted) (length s.lane.lane.takers) s.lane.lane.returned (length s.rings.hands) (length s.rings.aside) s.rings.sizes.capacity s.lane.lane.book

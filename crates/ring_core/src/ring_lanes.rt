@@ -121,7 +121,7 @@ impl<D: Desk> RingLane<D> {
 
     /// The words of the lane, whose buffers begin at this address.
     ///
-    /// Errors: only for want of memory.
+    /// Errors: only if memory runs out.
     pub fn words(&self, alloc: Global, base: Da) -> Result<RingWords, NoMemory>
         ensures words { IfOk result (λ words. words ≡ words_of self.now.rings base) }
         ensures sound { IsSoundRings self.now }
@@ -172,7 +172,7 @@ impl<D: Desk> RingLane<D> {
         }
     }
 
-    /// The desk behind the receiver's turn.
+    /// The desk that goes with the receiver's turn.
     pub fn desk(&self) -> &D
         ensures { result.now ≡ self.now.lane.desk }
     {

@@ -44,7 +44,7 @@ pub struct Rings {
     pub hands: LinkedList<Hand>,
     /// The buffers that were in the hands of callers who were reclaimed.
     pub aside: LinkedList<u32>,
-    /// What stands in each buffer, by its number.
+    /// What is in each buffer, by its number.
     pub buffers: LinkedList<Message>,
 }
 

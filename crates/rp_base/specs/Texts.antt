@@ -5,6 +5,6 @@ use Rattle.std.specs.Prelude.{ℕ, ◌-◌, List, ◌++◌, ◌==◌, not, lengt
 abbrev pub text_before_zero : List ℕ → List ℕ
 text_before_zero bytes = take_while (λ byte. not (byte == 0)) bytes
 
--- the text with zeros behind it, 32 bytes in all
+-- the text with zeros after it, 32 bytes in all
 abbrev pub padded_name : List ℕ → List ℕ
 padded_name text = text ++ replicate (32 - length text) 0

@@ -4,7 +4,7 @@ ghost use Rattle.rp_base.specs.Limits.{is_ring_size, ring_capacity};
 /// The most bytes of a message, which is the size of a buffer.
 pub const MESSAGE_MOST: usize = 512;
 
-/// The most bytes of a message behind its header of 16.
+/// The most bytes of a message after its header of 16.
 pub const PAYLOAD_MOST: usize = 496;
 
 /// The most bytes of a name.

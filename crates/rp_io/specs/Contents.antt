@@ -1,4 +1,4 @@
--- What is left to read and what is written, where a device tells it (own; after the words of std's `Io.KnownBytes`).
+-- What is left to read and what is written, where a device says it (own; after the words of std's `Io.KnownBytes`).
 use Rattle.std.specs.Prelude.{◌≡◌, ◌↔◌, ◌<◌, ◌≤◌, ℕ, List, [], length, take, Some, None}
 use Rattle.std.specs.declared.option.Option.{Option}
 use Rattle.std.specs.Io.KnownBytes.{Appends, Consumes}
@@ -23,7 +23,7 @@ abbrev pub IsLonger : Option (List ℕ) → ℕ → Type 0
 IsLonger None most = Unit {0}
 IsLonger (Some left) most = most < length left
 
--- some front of what was left, of at most so many bytes, is gone (own)
+-- some prefix of what was left, of at most so many bytes, is gone (own)
 pub record LosesFront (old new : Option (List ℕ)) (most : ℕ) : Type 0 where
   pub lost : List ℕ
   pub consumed : Consumes old new lost

@@ -33,7 +33,7 @@ image_within_limit (Some image) = if nat_le (length image.1) IMAGE_MOST then Ok 
 abbrev pub fetch_answer : List (List ℕ × List ℕ) → List ℕ → ImageAnswer
 fetch_answer images name = image_within_limit (find_image images name)
 
--- where told: an answer that is neither a failure nor want of memory is what the store has (own)
+-- where told: an answer that is neither a failure nor out of memory is what the store has (own)
 abbrev pub IsFetched : Option (List (List ℕ × List ℕ)) → List ℕ → Result (Vec ℕ Global) FetchFault → Type 0
 IsFetched None name answer = Unit {0}
 IsFetched (Some images) name (Ok image) = fetch_answer images name ≡ Ok image.items
@@ -60,7 +60,7 @@ IsToldFor images (Some name) answer = IsToldUnder images name answer
 abbrev pub text_name : List ℕ → Option (List ℕ)
 text_name name = if is_utf8 name then Some name else None
 
--- why nothing was told, by the count of the store's faults before and then (own)
+-- why nothing was given, by the count of the store's faults before and then (own)
 abbrev pub IsStoreFault : StoreFault → ℕ → ℕ → Type 0
 IsStoreFault store_fault.Failed before now = Rose before now
 IsStoreFault store_fault.NoMemory before now = now ≡ before

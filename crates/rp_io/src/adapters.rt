@@ -13,7 +13,7 @@ use std::marker::Model;
 /// A source over a reader of std. A read that the system interrupted is tried again, and is no
 /// fault. Each other error counts one and is answered.
 ///
-/// Contracts see what std tells of the reader's bytes, which of standard input and of a file is
+/// Contracts see what std says of the reader's bytes, which of standard input and of a file is
 /// nothing, and the count of faults, which stays at 2^64 - 1 once it is there.
 #[derive(Drop)]
 pub struct ReaderSource<R: Read + Drop> {
@@ -84,7 +84,7 @@ impl<R: Read + Drop> Source for ReaderSource<R> {
 /// A sink over a writer of std. A write that the system interrupted is tried again, and is no
 /// fault. Each other error counts one and is answered, and so does a write that took nothing.
 ///
-/// Contracts see what std tells of the writer's bytes, which of standard output is nothing, and
+/// Contracts see what std says of the writer's bytes, which of standard output is nothing, and
 /// the count of faults, which stays at 2^64 - 1 once it is there.
 #[derive(Drop)]
 pub struct WriterSink<W: Write + Drop> {

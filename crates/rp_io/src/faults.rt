@@ -27,7 +27,7 @@ pub enum NoImage {
     TooLarge(u64),
 }
 
-/// Why a store doesn't tell what it has under a name.
+/// Why a store doesn't say what it has under a name.
 #[derive(Clone, Copy, Debug, PartialEq)]
 pub enum StoreFault {
     /// The store failed. Its count of faults rose.

@@ -19,7 +19,7 @@ pub const FIRMWARE_FOLDER: &str = "firmware";
 /// system interrupted is made again, and is no fault. What is no plain file is a fault, and so is
 /// each other error, except that there is no such file or folder.
 ///
-/// Contracts see it as the count of its faults, which stays at 2^64 - 1 once it is there. It tells
+/// Contracts see it as the count of its faults, which stays at 2^64 - 1 once it is there. It says
 /// nothing of the images.
 #[derive(Drop)]
 pub struct FolderStore<R: Files + Drop> {
@@ -35,7 +35,7 @@ impl<R: Files + Drop> Model for FolderStore<R> {
     ghost view = { λ store. store.faults };
 }
 
-/// What stands under a path.
+/// What is under a path.
 #[derive(Drop)]
 enum Entry<F: Drop> {
     /// A plain file of so many bytes, opened.
@@ -44,7 +44,7 @@ enum Entry<F: Drop> {
     Other,
 }
 
-/// Looks what stands under a path, and opens it where it is a plain file.
+/// Looks what is under a path, and opens it where it is a plain file.
 fn look<R: Files>(files: &R, path: &str) -> io::Result<Entry<R::File>> {
     let metadata = fs::metadata(files, path)?;
     if !metadata.is_file() {

@@ -34,7 +34,7 @@ impl Model for MemorySink {
 
 impl MemorySink {
     /// A sink with room for `room` bytes in all, which it takes at once, and which takes at most
-    /// `most` bytes a write. The writes whose numbers stand in `fails`, counted from 0, are
+    /// `most` bytes a write. The writes whose numbers are in `fails`, counted from 0, are
     /// faults, and so is a write that finds the room used up.
     ///
     /// # Errors

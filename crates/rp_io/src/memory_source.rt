@@ -33,7 +33,7 @@ impl Model for MemorySource {
 
 impl MemorySource {
     /// A source of these bytes that gives at most `most` of them a read. The reads whose numbers
-    /// stand in `fails`, counted from 0, are faults.
+    /// are in `fails`, counted from 0, are faults.
     pub fn new(bytes: Vec<u8>, most: usize, fails: Vec<u64>) -> MemorySource
         requires some { 0 < most }
         requires ascending { IsTrue (ascends fails.items) }

@@ -27,7 +27,7 @@ impl Model for MemoryStore {
 }
 
 impl MemoryStore {
-    /// A store of these images. The fetches whose numbers stand in `fails`, counted from 0, are
+    /// A store of these images. The fetches whose numbers are in `fails`, counted from 0, are
     /// faults. Of two images of one name the first is found.
     pub fn new(images: Vec<(Name, Vec<u8>)>, fails: Vec<u64>) -> MemoryStore
         requires { IsTrue (ascends fails.items) }

@@ -39,7 +39,7 @@ impl PlainSource {
         PlainSource { bytes, read: 0 }
     }
 
-    /// Moves at most `most` of the bytes that are left to the front of `into`, and says how many.
+    /// Moves at most `most` of the bytes that are left to the start of `into`, and says how many.
     pub(crate) fn move_front(&mut self, into: &mut [u8], most: usize) -> usize
         ensures count { result ≡ min most (min (length into.old) (length self.old)) }
         ensures moved { into.new ≡ take result self.old ++ drop result into.old }

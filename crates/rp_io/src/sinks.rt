@@ -9,13 +9,13 @@ use crate::faults::Failed;
 
 /// A sink of bytes that counts its faults.
 ///
-/// `written` is all that was written, where the sink tells it. `faults` never falls.
+/// `written` is all that was written, where the sink says it. `faults` never falls.
 pub trait Sink {
     ghost written: { Self → Option (List ℕ) };
 
     ghost faults: { Self → ℕ };
 
-    /// Appends a front of `bytes`, at least one byte, and says how long it is.
+    /// Appends a prefix of `bytes`, at least one byte, and says how long it is.
     ///
     /// # Errors
     ///
@@ -32,7 +32,7 @@ pub trait Sink {
 ///
 /// # Errors
 ///
-/// [`Failed`] where the sink failed, and counted it. Some front of the bytes was appended then.
+/// [`Failed`] where the sink failed, and counted it. Some prefix of the bytes was appended then.
 #[tactic(auto, using(crate::proofs::Fronts::Appends_take_more))]
 pub fn write_whole<K: Sink>(sink: &mut K, bytes: &[u8]) -> Result<(), Failed>
     ensures ok { OnOk result (Appends (K.written sink.old) (K.written sink.new) bytes.now) }

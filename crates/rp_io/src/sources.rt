@@ -11,13 +11,13 @@ use std::alloc::Global;
 
 /// A source of bytes that counts its faults.
 ///
-/// `left` is what reads will give from here on, where the source tells it. `faults` never falls.
+/// `left` is what reads will give from here on, where the source says it. `faults` never falls.
 pub trait Source {
     ghost left: { Self → Option (List ℕ) };
 
     ghost faults: { Self → ℕ };
 
-    /// Moves some of the bytes that are left to the front of `into`, and says how many.
+    /// Moves some of the bytes that are left to the start of `into`, and says how many.
     ///
     /// # Errors
     ///

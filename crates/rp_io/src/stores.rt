@@ -9,7 +9,7 @@ use std::alloc::Global;
 
 /// A store of firmware images that counts its faults.
 ///
-/// `images` are the names and images, where the store tells them. `faults` never falls.
+/// `images` are the names and images, where the store says them. `faults` never falls.
 pub trait FirmwareStore {
     ghost images: { Self → Option (List (List ℕ × List ℕ)) };
 

@@ -24,7 +24,7 @@ destination_of message = number_at 4 4 message
 abbrev pub payload_length : List ℕ → ℕ
 payload_length message = number_at 2 12 message
 
--- the payload, which begins behind the 16 bytes of the header (rpmsg_hdr, data)
+-- the payload, which begins after the 16 bytes of the header (rpmsg_hdr, data)
 abbrev pub payload_of : List ℕ → List ℕ
 payload_of message = take (payload_length message) (drop 16 message)
 

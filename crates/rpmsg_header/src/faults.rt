@@ -6,7 +6,7 @@ use thiserror::Error;
 /// Why a message was not written or not read.
 #[derive(Clone, Copy, Debug, PartialEq, Eq, Error)]
 pub enum HeaderFault {
-    /// A payload of this many bytes does not fit into a buffer behind the header.
+    /// A payload of this many bytes does not fit into a buffer after the header.
     #[error("fault {}", self.number())]
     TooLong(usize),
     /// A message has no whole header, or its header claims more bytes than there are.

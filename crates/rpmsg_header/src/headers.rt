@@ -69,7 +69,7 @@ pub fn read(message: &Message) -> Result<Header<'_>, HeaderFault>
     })
 }
 
-/// The fields of a message as they stand, whole or not: a byte of the header that isn't there counts
+/// The fields of a message as they are, whole or not: a byte of the header that isn't there counts
 /// as 0, and the payload ends where the message does.
 pub fn fields(message: &[u8]) -> Header<'_>
     ensures source { result.src ≡ source_of message.now }

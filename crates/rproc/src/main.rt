@@ -51,7 +51,7 @@ fn words<R: AllocGlobal + Env>(rt: &R) -> Result<Vec<String>, AllocError> {
     }
 }
 
-/// The words behind the program's name.
+/// The words after the program's name.
 fn behind_name(alloc: Global, words: &[String]) -> Result<Vec<&str>, AllocError> {
     words
         .iter()

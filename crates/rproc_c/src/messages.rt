@@ -14,7 +14,7 @@ pub extern "C" fn rproc_read_head(message: &[u8], told: &mut CHeader) -> u32
     c_forms::read_head(message, told)
 }
 
-/// Writes the header of a message to the front of its buffer.
+/// Writes the header of a message to the start of its buffer.
 #[unsafe(no_mangle)]
 pub extern "C" fn rproc_write_head(buffer: &mut [u8], src: u32, dst: u32, len: u32) -> u32
     ensures status { result ≡ head_status len (length buffer.old) }
@@ -32,7 +32,7 @@ pub extern "C" fn rproc_read_service(payload: &[u8], told: &mut CService) -> u32
     c_forms::read_service(payload, told)
 }
 
-/// Writes the payload of a message to the name service to the front of a buffer.
+/// Writes the payload of a message to the name service to the start of a buffer.
 #[unsafe(no_mangle)]
 pub extern "C" fn rproc_write_service(given: &CService, buffer: &mut [u8]) -> u32
     ensures status { result ≡ service_room (length buffer.old) }

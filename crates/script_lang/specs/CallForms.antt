@@ -12,7 +12,7 @@ use Rattle.script_lang.specs.declared.call_forms.CallForm.TheVariants as call
 abbrev pub call_forms : List CallForm
 call_forms = call.Send ∷ call.Take ∷ call.Give ∷ call.Raw ∷ call.Bind ∷ call.Unbind ∷ []
 
--- the word by which a call is told
+-- the word by which a call is known
 abbrev pub call_keyword : CallForm → List ℕ
 call_keyword call.Send = codes "send"
 call_keyword call.Raw = codes "raw"
@@ -21,7 +21,7 @@ call_keyword call.Give = codes "give"
 call_keyword call.Bind = codes "bind"
 call_keyword call.Unbind = codes "unbind"
 
--- the call that is told by this word
+-- the call that is known by this word
 abbrev pub call_form_named : List ℕ → Option CallForm
 call_form_named word = find (λ form. bytes_eq word (call_keyword form)) call_forms
 

@@ -13,7 +13,7 @@ use Rattle.script_lang.specs.declared.forms.Form.TheVariants as form
 use Rattle.script_lang.specs.CallForms.{call_keyword, call_kinds, begin_kinds, call_command, begin_command}
 use Rattle.script_lang.specs.CoreForms.{core_keyword, core_kinds, core_command}
 
--- the forms that are told by their first word: all but those of `begin`
+-- the forms that are known by their first word: all but those of `begin`
 abbrev pub plain_forms : List Form
 plain_forms =
     form.Call call.Send ∷ form.Call call.Take ∷ form.Call call.Give ∷ form.Call call.Raw ∷ form.Call call.Bind ∷ form.Call call.Unbind
@@ -42,7 +42,7 @@ keyword form.Reclaim = codes "reclaim"
 keyword form.Reopen = codes "reopen"
 keyword form.Quiet = codes "quiet"
 
--- the form that is told by this first word
+-- the form that is known by this first word
 abbrev pub form_named : List ℕ → Option Form
 form_named word = find (λ form. bytes_eq word (keyword form)) plain_forms
 

@@ -34,12 +34,12 @@ abbrev pub onto : List Command → Result (List Command) Refusal → Result (Lis
 onto front (Ok more) = Ok (front ++ more)
 onto front (Err refusal) = Err refusal
 
--- what a line says, and then the lines behind it
+-- what a line says, and then the lines after it
 abbrev pub step_and_more : ℕ → Result Step Cause → Result (List Command) Refusal → Result (List Command) Refusal
 step_and_more line (Ok step) more = onto step.commands more
 step_and_more line (Err why) more = Err (bad_line line why)
 
--- the image that is open behind a line
+-- the image that is open after a line
 abbrev pub image_behind : Result Step Cause → Option OpenImage
 image_behind (Ok step) = step.image
 image_behind (Err why) = None

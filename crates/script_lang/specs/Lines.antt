@@ -28,7 +28,7 @@ abbrev pub form_or : Cause → Option Form → Result Form Cause
 form_or why None = Err why
 form_or why (Some form) = Ok form
 
--- a call that is begun is told by the fourth word
+-- a call that is begun is known by the fourth word
 abbrev pub begin_form : List (List ℕ) → Result Form Cause
 begin_form words =
     if nat_lt (length words) 4 then Err cause.Words else form_or cause.Value (option_map form.Begin (call_form_named (word_at words 3)))

@@ -1,4 +1,4 @@
--- The lines of recipes: the words of each form, what they say, and where they may stand (own).
+-- The lines of recipes: the words of each form, what they say, and where they may be (own).
 use Rattle.std.specs.Prelude.{ℕ, ◌+◌, Bool, true, false, not, nat_lt, List, [], ◌∷◌, find, Option, bytes_eq, codes}
 use Rattle.word_kinds.specs.declared.kinds.Kind.{Kind}
 use Rattle.word_kinds.specs.declared.kinds.Kind.TheVariants as kind
@@ -20,7 +20,7 @@ recipe_forms =
     ∷ form.Record record_form.Halt ∷ form.Record record_form.Announce ∷ form.Record record_form.Bind ∷ form.Record record_form.Send ∷ form.Record record_form.Raw
     ∷ form.Record record_form.Take ∷ form.Record record_form.Log ∷ form.Record record_form.Crash ∷ form.Record record_form.Loop ∷ []
 
--- the word by which a form is told
+-- the word by which a form is known
 abbrev pub recipe_keyword : RecipeForm → List ℕ
 recipe_keyword form.Entry = codes "entry"
 recipe_keyword form.Load = codes "load"
@@ -34,7 +34,7 @@ recipe_keyword form.Vendor = codes "vendor"
 recipe_keyword form.Code = codes "code"
 recipe_keyword (form.Record said) = record_keyword said
 
--- the form that is told by this word
+-- the form that is known by this word
 abbrev pub recipe_form_named : List ℕ → Option RecipeForm
 recipe_form_named word = find (λ form. bytes_eq word (recipe_keyword form)) recipe_forms
 
@@ -94,7 +94,7 @@ is_code_line behind.Code = true
 is_code_line behind.Table = false
 is_code_line (behind.Device rings) = false
 
--- a line of this form may stand here: one table, entries behind it or behind each other, rings behind their device, records behind their code
+-- a line of this form may be here: one table, entries after it or after each other, rings after their device, records after their code
 abbrev pub is_allowed : Context → RecipeForm → Bool
 is_allowed context form.Entry = true
 is_allowed context form.Load = true
@@ -112,7 +112,7 @@ is_allowed context (form.Record said) = is_code_line context.behind
 abbrev pub first_context : Context
 first_context = record { has_table = false; behind = behind.Other }
 
--- behind a line of this form
+-- after a line of this form
 abbrev pub context_after : Context → RecipeForm → Context
 context_after context form.Entry = record context { behind = behind.Other }
 context_after context form.Load = record context { behind = behind.Other }

@@ -26,7 +26,7 @@ pub record OpenImage : Type 0 where
   pub lines : List RecipeLine
   pub context : Context
 
--- the command that a line completes, if it does, and the image that is open behind it
+-- the command that a line completes, if it does, and the image that is open after it
 pub record Step : Type 0 where
   pub commands : List Command
   pub image : Option OpenImage

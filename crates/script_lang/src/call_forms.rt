@@ -26,7 +26,7 @@ pub(crate) const CALL_FORMS: [CallForm; 6] = [
     CallForm::Unbind,
 ];
 
-/// The word by which a call is told.
+/// The word by which a call is known.
 pub(crate) fn call_keyword(form: CallForm) -> &'static str
     ensures { result.now ≡ call_keyword form }
 {
@@ -40,7 +40,7 @@ pub(crate) fn call_keyword(form: CallForm) -> &'static str
     }
 }
 
-/// The call that is told by this word.
+/// The call that is known by this word.
 pub(crate) fn call_form_named(word: &[u8]) -> Option<CallForm>
     ensures { result ≡ call_form_named word.now }
 {

@@ -48,7 +48,7 @@ pub enum Command {
         destination: u64,
         payload: Data,
     },
-    /// A whole send of a message as it stands, its header included: caller, message.
+    /// A whole send of a message as it is, its header included: caller, message.
     Raw {
         name: Name,
         caller: u64,
@@ -85,7 +85,7 @@ pub enum Command {
         destination: u64,
         payload: Data,
     },
-    /// Begins a send of a message as it stands: caller, message.
+    /// Begins a send of a message as it is: caller, message.
     BeginRaw {
         name: Name,
         caller: u64,
@@ -132,7 +132,7 @@ pub enum Command {
         receiver: u64,
         count: u64,
     },
-    /// Tells the counts of both lanes.
+    /// Says the counts of both lanes.
     Books {
         name: Name,
     },
@@ -141,7 +141,7 @@ pub enum Command {
         name: Name,
         lane: u64,
     },
-    /// Tells the channels that the host's end of the link knows.
+    /// Says the channels that the host's end of the link knows.
     Channels {
         name: Name,
     },

@@ -33,7 +33,7 @@ pub(crate) enum Form {
     Quiet,
 }
 
-/// The forms that are told by their first word.
+/// The forms that are known by their first word.
 pub(crate) const FORMS: [Form; 35] = [
     Form::Call(CallForm::Send),
     Form::Call(CallForm::Take),
@@ -199,7 +199,7 @@ pub(crate) fn command_of(alloc: Global, form: Form, words: &[&[u8]]) -> Result<C
     }
 }
 
-/// The form that is told by this first word.
+/// The form that is known by this first word.
 pub(crate) fn form_named(word: &[u8]) -> Option<Form>
     ensures { result ≡ form_named word.now }
 {

@@ -73,7 +73,7 @@ fn commands_of(alloc: Global, text: &[u8]) -> Result<Script, ParseFault>
     })
 }
 
-/// The first line of a text that isn't empty, and what stands behind its line feed.
+/// The first line of a text that isn't empty, and what comes after its line feed.
 fn cut_line(text: &[u8]) -> (&[u8], &[u8])
     requires { 0 < length text.now }
     ensures lines { lines_of text.now ≡ result.0.now ∷ lines_of result.1.now }

@@ -59,14 +59,14 @@ pub(crate) enum Behind {
     Device(u32),
 }
 
-/// What the lines of a recipe before tell of those that may follow.
+/// What the lines of a recipe before say of those that may follow.
 #[derive(Clone, Copy, Drop)]
 pub(crate) struct Context {
     pub(crate) has_table: bool,
     pub(crate) behind: Behind,
 }
 
-/// The word by which a form is told.
+/// The word by which a form is known.
 fn recipe_keyword(form: RecipeForm) -> &'static str
     ensures { result.now ≡ recipe_keyword form }
 {
@@ -85,7 +85,7 @@ fn recipe_keyword(form: RecipeForm) -> &'static str
     }
 }
 
-/// The form that is told by this word.
+/// The form that is known by this word.
 pub(crate) fn recipe_form_named(word: &[u8]) -> Option<RecipeForm>
     ensures { result ≡ recipe_form_named word.now }
 {
@@ -162,7 +162,7 @@ pub(crate) fn recipe_line(
     }
 }
 
-/// Whether a line of this form may stand here.
+/// Whether a line of this form may be here.
 pub(crate) fn is_allowed(context: Context, form: RecipeForm) -> bool
     ensures { result ≡ is_allowed context form }
 {
@@ -182,7 +182,7 @@ pub(crate) fn is_allowed(context: Context, form: RecipeForm) -> bool
     }
 }
 
-/// What a line of this form that may stand here tells of those behind it.
+/// What a line of this form that may be here says of those after it.
 pub(crate) fn context_after(context: Context, form: RecipeForm) -> Context
     requires { is_allowed context form ≡ true }
     ensures { result ≡ context_after context form }

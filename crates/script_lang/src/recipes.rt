@@ -24,7 +24,7 @@ pub enum RecipeLine {
     Vring(u64, u64, u64),
     /// A vendor's entry of the table: its type, from 4.
     Vendor(u64),
-    /// A segment of a worker's code: its device address. The records behind it are its bytes.
+    /// A segment of a worker's code: its device address. The records after it are its bytes.
     Code(u64),
     /// A record: the worker ends.
     Halt,

@@ -1,4 +1,4 @@
--- How what a run tells comes to its sink (own). No public clause speaks of this: it serves the contracts of the crate's own functions.
+-- How what a run writes comes to its sink (own). No public clause speaks of this: it serves the contracts of the crate's own functions.
 use Rattle.std.specs.Prelude.{◌≡◌, ◌⊎◌, ℕ, List, ◌++◌, Option, Result, Ok, Err}
 use Rattle.std.specs.Io.KnownBytes.{Appends}
 use Rattle.rp_io.specs.Causes.{Rose}
@@ -13,7 +13,7 @@ use Rattle.script_run.specs.Outputs.{Output, transcript_output}
 use Rattle.script_run.specs.Endings.{IsRunCourse, IsWellRun}
 use Rattle.script_run.specs.Yards.{StandsBehind, StandsInDrive}
 
--- a text is appended whole, or a front of it, where the sink failed or memory ran out; no store has a part in it
+-- a text is appended whole, or a prefix of it, where the sink failed or memory ran out; no store has a part in it
 abbrev pub Tells : {T : Type 0} → Result T OutputFault → List ℕ → Option (List ℕ) → Option (List ℕ) → ℕ → ℕ → Type 0
 Tells (Ok value) text old new before now = Appends old new text × (now ≡ before)
 Tells (Err output_fault.Failed) text old new before now = AppendsFront old new text × Rose before now

@@ -23,7 +23,7 @@ use Rattle.script_run.specs.Outputs.{Form, other, run, check, demo, storm, audit
 use Rattle.script_run.specs.Reports.{report_of_fetch, check_report}
 use Rattle.script_run.specs.Demos.{demo_output}
 
--- what the devices hold, where they tell it, and their counts of faults
+-- what the devices hold, where they say it, and their counts of faults
 pub record Devices : Type 0 where
   -- what the source has left
   pub left : Option (List ℕ)
@@ -70,7 +70,7 @@ IsFailedRun images told failed before now = IsTold images told × (failed ≡ tr
 abbrev pub IsRunCourse : Option (List (List ℕ × List ℕ)) → StoreAnswers → Bool → ℕ → ℕ → Type 0
 IsRunCourse images told failed before now = IsWellRun images told before now ⊎ IsFailedRun images told failed before now
 
--- the output of a script over a store that didn't fail; of one that doesn't tell its images, that over some answers
+-- the output of a script over a store that didn't fail; of one that doesn't say its images, that over some answers
 abbrev pub IsScriptOutput : Option (List (List ℕ × List ℕ)) → List ℕ → Output → Type 0
 IsScriptOutput None bytes output = (told : StoreAnswers) × IsHeld None told × (output ≡ run_output told bytes)
 IsScriptOutput (Some images) bytes output = output ≡ run_output (store_of images) bytes
@@ -82,7 +82,7 @@ pub record IsCutOutput (images : Option (List (List ℕ × List ℕ))) (bytes : 
   pub fails : fails_in told (script_of bytes) ≡ true
   pub written : output ≡ run_output told bytes
 
--- this holds of the text that was read; of a source that doesn't tell, of some text
+-- this holds of the text that was read; of a source that doesn't say, of some text
 abbrev pub OfSource : Option (List ℕ) → (List ℕ → Type 0) → Type 0
 OfSource None holds = (bytes : List ℕ) × holds bytes
 OfSource (Some bytes) holds = holds bytes
@@ -91,7 +91,7 @@ OfSource (Some bytes) holds = holds bytes
 abbrev pub IsRunOutput : Option (List ℕ) → Option (List (List ℕ × List ℕ)) → Output → Type 0
 IsRunOutput left images output = OfSource left (λ bytes. IsScriptOutput images bytes output)
 
--- the report of an image; of a store that doesn't tell, that of some answer
+-- the report of an image; of a store that doesn't say, that of some answer
 abbrev pub IsReportOutput : Option (List (List ℕ × List ℕ)) → List ℕ → Output → Type 0
 IsReportOutput None name output =
     (answer : ImageAnswer) × (output ≡ report_output (report_of_fetch name answer))
@@ -130,7 +130,7 @@ abbrev pub IsOutput : Form → Devices → Devices → Output → Type 0
 IsOutput form before now output =
     (IsAsked form before output × IsReadWell before now) ⊎ IsFaultOutput form before now output
 
--- how an output is written, by the status with which the program ends: a front of it where the sink failed or memory ran out, else the whole
+-- how an output is written, by the status with which the program ends: a prefix of it where the sink failed or memory ran out, else the whole
 abbrev pub Writes : Status → Output → Option (List ℕ) → Option (List ℕ) → ℕ → ℕ → Type 0
 Writes status.WriteFault output old new before now = AppendsFront old new output.text × Rose before now
 Writes status.NoMemory output old new before now = AppendsFront old new output.text × (now ≡ before)
@@ -163,7 +163,7 @@ abbrev pub IsStatusCourse : Status → Option (List (List ℕ × List ℕ)) → 
 IsStatusCourse status.NoMemory images told failed before now = IsWellRun images told before now
 IsStatusCourse ended images told failed before now = IsRunCourse images told failed before now
 
--- a script is run over what the store tells, or refused, and its output written
+-- a script is run over what the store says, or refused, and its output written
 pub record RunEnds (ended : Status) (images : Option (List (List ℕ × List ℕ))) (said : Result (List Command) Refusal) (old new : Option (List ℕ)) (before now was then : ℕ) : Type 0 where
   pub told : StoreAnswers
   pub course : IsStatusCourse ended images told (fails_in told said) was then
@@ -174,7 +174,7 @@ abbrev pub RunAnswersAs : Option Status → Option (List (List ℕ × List ℕ))
 RunAnswersAs None images commands old new before now was then = ⊥
 RunAnswersAs (Some ended) images commands old new before now was then = RunEnds ended images (Ok commands) old new before now was then
 
--- the answer is the number of a status with which the storm of this plan ends: its report is written, or a front of it
+-- the answer is the number of a status with which the storm of this plan ends: its report is written, or a prefix of it
 abbrev pub StormAnswersAs : Option Status → Plan → Option (List ℕ) → Option (List ℕ) → ℕ → ℕ → Type 0
 StormAnswersAs None plan old new before now = ⊥
 StormAnswersAs (Some ended) plan old new before now = Writes ended (storm_output plan) old new before now
@@ -226,7 +226,7 @@ abbrev pub TextAsksNone : Result (List Command) Refusal → Type 0
 TextAsksNone (Ok commands) = AsksNone new_run commands
 TextAsksNone (Err refusal) = Unit {0}
 
--- the same of the script that a source has, where it tells
+-- the same of the script that a source has, where it says
 abbrev pub SourceAsksNone : Option (List ℕ) → Type 0
 SourceAsksNone None = ⊥
 SourceAsksNone (Some bytes) = TextAsksNone (script_of bytes)

@@ -60,7 +60,7 @@ abbrev pub storm_form : Option ℕ → Option ℕ → Option ℕ → Option ℕ 
 storm_form (Some hosts) (Some remotes) (Some count) (Some num) = plan_form (record { hosts = hosts; remotes = remotes; count = count; num = num })
 storm_form hosts remotes count num = other
 
--- what a first word asks for with the one behind it
+-- what a first word asks for with the one after it
 abbrev pub argument_form : List ℕ → List ℕ → Form
 argument_form word argument =
     if bytes_eq word (codes "check") then named_form (name_of argument)
@@ -70,12 +70,12 @@ argument_form word argument =
 abbrev pub word_form : List ℕ → Form
 word_form word = if bytes_eq word (codes "run") then run else (if bytes_eq word (codes "audit") then audit else other)
 
--- what a first word asks for with the four behind it
+-- what a first word asks for with the four after it
 abbrev pub numbers_form : List ℕ → List ℕ → List ℕ → List ℕ → List ℕ → Form
 numbers_form word hosts remotes count num =
     if bytes_eq word (codes "storm") then storm_form (argument_of hosts) (argument_of remotes) (argument_of count) (argument_of num) else other
 
--- what these words behind the program's name ask for
+-- what these words after the program's name ask for
 abbrev pub form_of : List (List ℕ) → Form
 form_of [] = other
 form_of (word ∷ []) = word_form word
@@ -103,7 +103,7 @@ stop_output (Some stop.StepLimit) = record { status = status.StepLimit; text = r
 abbrev pub end_output : Run → Output
 end_output ended = if ended.failed then store_fault_output else stop_output ended.ending
 
--- lines, and an end behind them
+-- lines, and an end after them
 abbrev pub output_behind : List ℕ → Output → Output
 output_behind lines last = record last { text = lines ++ last.text }
 
@@ -120,7 +120,7 @@ abbrev pub script_output : StoreAnswers → Result (List Command) Refusal → Ou
 script_output told (Ok commands) = transcript_output (run_of told commands)
 script_output told (Err refusal) = refusal_output refusal
 
--- the output of the words `run`, by what the store tells and the bytes of the script
+-- the output of the words `run`, by what the store says and the bytes of the script
 unfoldable pub run_output : StoreAnswers → List ℕ → Output
 run_output told bytes = script_output told (script_of bytes)
 

@@ -36,7 +36,7 @@ abbrev pub some_words : List (List ℕ) → Option (List (List ℕ))
 some_words [] = None
 some_words (word ∷ more) = Some (word ∷ more)
 
--- the first word is the value of `JOB`, and those behind it are the values of `ARGS`
+-- the first word is the value of `JOB`, and those after it are the values of `ARGS`
 pub record AreMatched (words : List (List ℕ)) (matches : ArgMatches) : Type 0 where
   pub job : first_value (found_of matches) (codes "JOB") ≡ slice_get words 0
   pub args : option_map raw_values (matched_of (found_of matches) (codes "ARGS")) ≡ some_words (drop 1 words)

@@ -1,4 +1,4 @@
--- What stands in a yard behind a run: its links and cores, by the state in which the run ended or was cut off (own).
+-- What is in a yard after a run: its links and cores, by the state in which the run ended or was cut off (own).
 use Rattle.std.specs.Prelude.{◌≡◌, ◌⊎◌, ℕ, List, [], ◌∷◌, ◌++◌, Option, Some, None, Result, Ok, Err}
 use Rattle.rp_io.specs.Causes.{Rose}
 use Rattle.rp_io.specs.Contents.{AppendsFront}
@@ -15,7 +15,7 @@ use Rattle.program_status.specs.declared.statuses.Status.TheVariants as status
 use Rattle.script_run.specs.Outputs.{Form, other, run, check, demo, storm, audit, transcript_output}
 use Rattle.script_run.specs.Endings.{Devices, OfSource, RunEnds}
 
--- the yard stands for the state behind the first of the commands, and nothing is written of what the later ones tell
+-- the yard stands for the state after the first of the commands, and nothing is written of what the later ones write
 pub record StandsBehind (told : StoreAnswers) (commands : List Command) (yard : ObjectsState) (old new : Option (List ℕ)) : Type 0 where
   pub done : List Command
   pub more : List Command
@@ -23,11 +23,11 @@ pub record StandsBehind (told : StoreAnswers) (commands : List Command) (yard : 
   pub is : yard ≡ (run_of told done).last.objects
   pub front : AppendsFront old new (transcript_output (run_of told done)).text
 
--- the run of these commands and a drive of so many steps behind them
+-- the run of these commands and a drive of so many steps after them
 abbrev pub run_to_drive : StoreAnswers → List Command → List ℕ → ℕ → Run
 run_to_drive told done name steps = run_of told (done ++ command.Drive name steps ∷ [])
 
--- the yard stands for the state behind the first of the commands and some steps of the drive that is next, and nothing is written of what is told later; where the sink failed, less than a piece was kept beside what the last 1,024 of these steps, or one event, told
+-- the yard stands for the state after the first of the commands and some steps of the drive that is next, and nothing is written of what comes later; where the sink failed, less than a piece was kept beside what the last 1,024 of these steps, or one event, told
 pub record StandsInDrive (told : StoreAnswers) (commands : List Command) (yard : ObjectsState) (old new : Option (List ℕ)) : Type 0 where
   pub done : List Command
   pub next : Command

@@ -30,7 +30,7 @@ use std::sync::Wait;
 use std::thread::Threads;
 use storm_run::FreeGate;
 
-/// The program: it does what the words behind the program's name ask for, and answers the number with
+/// The program: it does what the words after the program's name ask for, and answers the number with
 /// which the process ends. With the word `run` it reads a script from the source, runs it and writes
 /// the transcript; with `check NAME` it writes whether the image of that name loads; with `demo N` it
 /// runs the script of a demo over an empty store and writes how many messages its links accepted; with
@@ -104,7 +104,7 @@ fn answer<R: Threads + Wait + Sync, S: Source, F: FirmwareStore, K: Sink>(
     }
 }
 
-/// Reads a script, runs it over what the store tells and writes its transcript.
+/// Reads a script, runs it over what the store says and writes its transcript.
 fn run_text<S: Source, F: FirmwareStore, K: Sink>(
     alloc: Global,
     script: &mut S,

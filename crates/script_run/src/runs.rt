@@ -15,7 +15,7 @@ use run_log::RunLog;
 use script_lang::Command;
 use std::alloc::Global;
 
-/// Runs commands in order from nothing over what the store tells, writes their events and the last
+/// Runs commands in order from nothing over what the store says, writes their events and the last
 /// line of the run, and answers how the program ends.
 pub(crate) fn run_commands<F: FirmwareStore, K: Sink>(
     alloc: Global,
@@ -36,7 +36,7 @@ pub(crate) fn run_commands<F: FirmwareStore, K: Sink>(
     }
 }
 
-/// Runs commands in order from nothing over what the store tells, and writes what they tell.
+/// Runs commands in order from nothing over what the store says, and writes their events.
 fn tell_commands<F: FirmwareStore, K: Sink>(
     alloc: Global,
     objects: &mut Objects,

@@ -26,11 +26,11 @@ pub enum Request<'a> {
     Demo(u32),
     /// `storm H R N K`: to run the storm of this plan.
     Storm(Plan),
-    /// `audit`: to tell whether the lines of a transcript keep the rules.
+    /// `audit`: to say whether the lines of a transcript keep the rules.
     Audit,
 }
 
-/// What these words, those behind the name of the program, ask for. A word that begins with `-` asks
+/// What these words, those after the name of the program, ask for. A word that begins with `-` asks
 /// for nothing that the program does.
 pub(crate) fn read_words<'a>(alloc: Global, words: &'a [&'a str]) -> Result<Request<'a>, NoMemory>
     ensures form { IfOk result (λ asked. request_form asked ≡ form_of (map (λ word. word.now) words.now)) }

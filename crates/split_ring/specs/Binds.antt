@@ -1,4 +1,4 @@
--- A binding and an unbinding over the words: what the desk behind the receiver's turn answers and becomes, and the walk (own).
+-- A binding and an unbinding over the words: what the desk that goes with the receiver's turn answers and becomes, and the walk (own).
 use Rattle.std.specs.Prelude.{◌≡◌, ◌≢◌, ◌+◌, ℕ, List, [], ◌∷◌, Result, Ok, Err}
 use base.Stored.{Coded}
 use Rattle.rp_base.specs.declared.kinds.BindFault.{BindFault}
@@ -77,7 +77,7 @@ module _ {D : Type 0} (coded : Coded D) (meaning : DeskMeaning D) (tables : Desk
     pub second : HasDone coded meaning (Step (made.Era (live_era who.follows)) ∷ []) same_hands begun changed
     pub others : HasDone coded meaning later same_hands changed me'
 
-  -- an answer that a desk gave is that of the desk behind the turn
+  -- an answer that a desk gave is that of the desk that goes with the turn
   abbrev pub IsOfDesk : Result Endpoint DeskFault → List Event → SeatState → SeatState → Type 0
   IsOfDesk (Err (desk_fault.Busy holder)) later me me' = Unit {0}
   IsOfDesk (Err (desk_fault.Dead era)) later me me' = Unit {0}

@@ -1,4 +1,4 @@
--- What a call asks and tells of its caller, by the link (own).
+-- What a call asks and says of its caller, by the link (own).
 use Rattle.std.specs.Prelude.{◌≡◌, ◌<◌, ℕ, List, [], ◌∷◌, Result}
 use Rattle.lane_model.specs.declared.TheConstants.{MANAGER}
 use Rattle.rp_base.specs.declared.limits.TheConstants.{CALLERS_MOST}
@@ -58,7 +58,7 @@ seen_sending caller = seen (other caller.id.end) caller.id.follows (own_of calle
 abbrev pub seen_taking : Caller → LaneCounts
 seen_taking caller = seen caller.id.end caller.id.follows (own_of caller)
 
--- the answer of a send, and of a take, tells no count that is below what the caller had seen
+-- the answer of a send, and of a take, says no count that is below what the caller had seen
 abbrev pub SendNotBelow : Caller → Result ℕ SendFault → Type 0
 SendNotBelow before answer = IsSendNotBelow (seen_sending before) answer
 
@@ -109,7 +109,7 @@ module _ {D : Type 0} where
     pub rests : IsCallerOf link before → IsCallerOf link after
     pub in_call : (call : RingCall D) → MayAdvance link before call → MayAdvance link after call
 
-  -- the same behind a step that says this, or the caller is in no call again
+  -- the same after a step that says this, or the caller is in no call again
   abbrev pub IsAdvanced : SharedLink D → Caller → RingCall D → Progress → Type 0
   IsAdvanced link caller call (progress.At number) = MayAdvance link caller call
   IsAdvanced link caller call (progress.Done answer) = IsCallerOf link caller
@@ -163,8 +163,8 @@ module _ {D : Type 0} (coded : Coded D) (meaning : DeskMeaning D) where
   abbrev pub TakesStep : SharedLink D → Caller → RingCall D → Progress → Caller → RingCall D → Type 0
   TakesStep link caller call said after next = Advances coded meaning link.sizes caller.id call.phase said next.phase caller.seat.me after.seat.me
 
-  -- whatever this call asked and wherever its caller stood when it began: if it has come to this phase by the walk, and the step ends it, then its
-  -- answer tells no count that is below what the caller had seen then; a give makes one above that
+  -- whatever this call asked and wherever its caller was when it began: if it has come to this phase by the walk, and the step ends it, then its
+  -- answer says no count that is below what the caller had seen then; a give makes one above that
   abbrev pub StepNotBelow : SharedLink D → Caller → RingCall D → Progress → Caller → Type 0
   StepNotBelow link caller call said after = (asked : Ask) (start : SeatState) → HasCome coded meaning link.sizes caller.id asked start call.phase caller.seat.me
       → EndsNotBelow caller.id asked said (pass_in start).own (own_of after)

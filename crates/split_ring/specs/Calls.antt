@@ -1,4 +1,4 @@
--- A call taken step by step: where its seat stands in each phase, which steps it has done, and what one step makes of it (own).
+-- A call taken step by step: where its seat is in each phase, which steps it has done, and what one step makes of it (own).
 use Rattle.std.specs.Prelude.{◌≡◌, ◌+◌, ◌≤◌, ℕ, List, [], ◌∷◌, length, Option, Some, None, Result, Ok, Err}
 use base.Stored.{Coded}
 use Rattle.rp_base.specs.declared.kinds.Endpoint.{Endpoint}
@@ -106,13 +106,13 @@ abbrev pub ask_of : DeskAsk → Ask
 ask_of (asks.Bind address) = ask.Bind address
 ask_of (asks.Unbind address) = ask.Unbind address
 
--- what is in hand behind a call with this answer
+-- what is in hand after a call with this answer
 abbrev pub hands_with : Answer → List ℕ → List ℕ
 hands_with (answer.Took held verdict) = one_more held.number
 hands_with (answer.Gave number) = λ hands. hands_but hands number
 hands_with said = same_hands
 
--- where the seat of a send stands that has done the step of this stage last
+-- where the seat of a send is that has done the step of this stage last
 abbrev pub SendStands : LinkSizes → SendCall → SendStage → SeatState → Type 0
 SendStands z c stage.Turn me = IsSendAt c stage.Turn me
 SendStands z c stage.Era me = IsSendAt c stage.Era me
@@ -147,7 +147,7 @@ IsOwnAsk who (ask.Give held) me = IsHeldBy who held me
 IsOwnAsk who (ask.Bind address) me = Unit {0}
 IsOwnAsk who (ask.Unbind address) me = Unit {0}
 
--- where a caller's seat stands in a call in this phase
+-- where a caller's seat is in a call in this phase
 abbrev pub IsInPhase : LinkSizes → CallerId → Phase → SeatState → Type 0
 IsInPhase z who (phase.Asked asked) me = IsAt me (Rests who.end) [] × IsOwnAsk who asked me
 IsInPhase z who (phase.Sends stage c message) me = SendStands z c stage me × (c.who ≡ who) × (c.message.value ≡ message)
@@ -158,7 +158,7 @@ IsInPhase z who (phase.LeavesSender answer) me = IsLeaving lane_turn.Sender (oth
 IsInPhase z who (phase.LeavesReceiver answer) me = IsLeaving lane_turn.Receiver who.end (call_end answer) me
 IsInPhase z who phase.Ended me = ⊥
 
--- where it stands behind a step that says this
+-- where it is after a step that says this
 abbrev pub StandsAt : LinkSizes → CallerId → Progress → Phase → SeatState → Type 0
 StandsAt z who (progress.At number) phase me = IsInPhase z who phase me
 StandsAt z who (progress.Done said) phase me = IsAt me (Rests who.end) []
@@ -200,7 +200,7 @@ count_steps (Count lane inc counts ∷ es) = count_steps es + 1
 count_steps (Publish lane inc number message ∷ es) = count_steps es + 1
 count_steps (Take lane inc number message ∷ es) = count_steps es
 
--- what is in hand behind the steps of a call in this phase
+-- what is in hand after the steps of a call in this phase
 abbrev pub hands_in : Phase → List ℕ → List ℕ
 hands_in (phase.LeavesSender answer) = hands_with answer
 hands_in (phase.LeavesReceiver answer) = hands_with answer
@@ -208,7 +208,7 @@ hands_in said = same_hands
 
 module _ {D : Type 0} (coded : Coded D) (meaning : DeskMeaning D) (z : LinkSizes) (who : CallerId) where
   -- the entries are the whole walk of a call that asked this, with this answer: a give is in the incarnation of the latest step before the call,
-  -- and a desk's answer is that of the desk behind the turn, with these entries behind it
+  -- and a desk's answer is that of the desk that goes with the turn, with these entries after it
   abbrev pub IsWalkFor : Ask → Answer → List Event → List Event → SeatState → SeatState → Type 0
   IsWalkFor (ask.Send message) said walk later me me' = (r : Result ℕ SendFault) × (said ≡ send_answer r) × IsSendWalk z who message r walk
   IsWalkFor ask.Take said walk later me me' = (r : Result Taken TakeFault) × (said ≡ take_answer r) × IsTakeWalk meaning who r walk

@@ -1,4 +1,4 @@
--- The calls that a manager carries: what is out with each, and where its caller stands in it (own).
+-- The calls that a manager carries: what is out with each, and where its caller is in it (own).
 use Rattle.std.specs.Prelude.{◌≡◌, ◌≢◌, ◌≤◌, ◌<◌, ◌+◌, ℕ, zero, suc, List, [], ◌∷◌, ◌++◌, length, Some, true, slice_index}
 use Rattle.rp_base.specs.declared.limits.TheConstants.{CALLERS_MOST}
 use mathlib.Core.Option.{some}
@@ -29,7 +29,7 @@ out_before zero counts = 0
 out_before (suc n) [] = 0
 out_before (suc n) (c ∷ cs) = c + out_before n cs
 
--- the first slots go behind the others, so many, one after the other
+-- the first slots go after the others, so many, one after the other
 abbrev pub turned_by : ℕ → List (ℕ × Slot) → List (ℕ × Slot)
 turned_by zero slots = slots
 turned_by (suc n) slots = turned_by n (turned slots)
@@ -49,7 +49,7 @@ carried_seat who p manager = carried_at who p manager.out manager.seat.me
 abbrev pub IsNew : SeatState → Type 0
 IsNew me = ((pass_in me).own ≡ []) × ((pass_in me).hands ≡ [])
 
--- each slot that is out is one of a carried call, and they stand in the order of the side states with which they are out, with each so many
+-- each slot that is out is one of a carried call, and they are in the order of the side states with which they are out, with each so many
 pub record HasBlocks (counts : List ℕ) (me : SeatState) : Type 0 where
   pub four : length counts ≡ 4
   pub few : (slot : ℕ) → slice_index counts slot ≤ 2
@@ -76,11 +76,11 @@ module _ {D : Type 0} where
   abbrev pub MayAdvanceBy : SharedLink D → Manager → CallerId → RingCall D → Type 0
   MayAdvanceBy link manager who call = Carries link manager who call.phase × IsUnderWay call.phase
 
-  -- the same behind a step that said this
+  -- the same after a step that said this
   abbrev pub CarriesOn : SharedLink D → Manager → CallerId → Phase → Progress → Type 0
   CarriesOn link manager who p (progress.At number) = Carries link manager who p × IsUnderWay p
   CarriesOn link manager who p (progress.Done answer) = CarriesIdle link manager who
 
-  -- behind a call of the manager it carries this caller as it did before: in the same phase of its call, with what it has done and what it holds
+  -- after a call of the manager it carries this caller as it did before: in the same phase of its call, with what it has done and what it holds
   abbrev pub Keeps : SharedLink D → Manager → Manager → CallerId → Phase → Type 0
   Keeps link before after who p = Carries link before who p → Carries link after who p × (pass_in (carried_seat who p after) ≡ pass_in (carried_seat who p before))

@@ -65,7 +65,7 @@ slot_count (EndsHeld e x) = 1
 slot_count (Reopens p inc a b) = 0
 slot_count (Gathers a b) = 0
 
--- the first so many slots, and those behind them
+-- the first so many slots, and those after them
 abbrev pub front : ℕ → List (ℕ × Slot) → List (ℕ × Slot)
 front zero slots = []
 front (suc n) [] = []
@@ -88,7 +88,7 @@ count_of n me = slot_count (call_at (place_of_number n me.0.passes) me.0.passes)
 abbrev pub seat_of : ℕ → SeatState → SeatState
 seat_of n me = focus (place_of_number n me.0.passes) (count_of n me) me
 
--- the slots behind those
+-- the slots after those
 abbrev pub others_of : ℕ → SeatState → List (ℕ × Slot)
 others_of n me = behind (count_of n me) me.1
 

@@ -1,4 +1,4 @@
--- A form of a link that tells no state (own).
+-- A form of a link that gives no state (own).
 use Rattle.std.specs.Prelude.{◌≡◌, Option, Some, None}
 use mathlib.Core.Path.{subst}
 

@@ -32,7 +32,7 @@ abbrev pub IsHandedIn : {D : Type 0} → CallerId → LaneLink (RingState D) →
 IsHandedIn who m (answer.Took held verdict) = IsOwnBuffer who m held × (held.number ≡ length (lane_to m who.end).lane.lane.takers)
 IsHandedIn who m said = Unit {0}
 
--- the lane from which a caller takes, behind the step that settles that its call has this answer: a message was handed over, or a buffer is back
+-- the lane from which a caller takes, after the step that settles that its call has this answer: a message was handed over, or a buffer is back
 abbrev pub incoming_by : ℕ → Answer → Lane → Lane
 incoming_by caller (answer.Took held verdict) lane = with_handed lane caller
 incoming_by caller (answer.Gave number) lane = with_returned lane number caller

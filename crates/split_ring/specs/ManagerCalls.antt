@@ -34,13 +34,13 @@ use Rattle.split_ring.specs.Reopens.{AreTold}
 use Rattle.split_ring.specs.States.{turns_out}
 
 -- a reopening of a link in this state has this answer, and leaves its manager so: the books are those of the incarnation that was closed, and the state
--- that behind a reopening; a refusal that isn't want of memory is the one that the state gives, and leaves it
+-- that after a reopening; a refusal that isn't out of memory is the one that the state gives, and leaves it
 abbrev pub ReopensState : {D : Type 0} → Coded D → DeskMeaning D → LaneLink (RingState D) → Result Books ReopenFault → Manager → Type 0
 ReopensState coded meaning m (Ok books) after = (link_reopen_refusal (link_of (ring_form meaning) m) ≡ None) × (books.inc ≡ m.era.inc) × AreTold books (λ e. books_of (lane_to m e))
     × IsStateOf coded after (link_after_reopen (ring_form meaning) m)
 ReopensState coded meaning m (Err why) after = ((why ≡ fault.NoMemory) ⊎ (link_reopen_refusal (link_of (ring_form meaning) m) ≡ Some why)) × IsStateOf coded after m
 
--- the end of this caller has this answer, and leaves the manager so: nothing refuses it, and the state is that behind a reclaim; or it is refused for what the state gives,
+-- the end of this caller has this answer, and leaves the manager so: nothing refuses it, and the state is that after a reclaim; or it is refused for what the state gives,
 -- and leaves it
 abbrev pub EndsState : {D : Type 0} → Coded D → DeskMeaning D → LaneLink (RingState D) → ℕ → Result (Unit {0}) ReclaimRefusal → Manager → Type 0
 EndsState coded meaning m caller (Ok done) after = (link_reclaim_refusal (link_of (ring_form meaning) m) caller ≡ None) × IsStateOf coded after (link_after_reclaim (ring_form meaning) m caller)
@@ -51,8 +51,8 @@ abbrev pub ReclaimsState : {D : Type 0} → Coded D → DeskMeaning D → LaneLi
 ReclaimsState coded meaning m caller call held (Ok done) after = EndsState coded meaning m caller (Ok done) after
 ReclaimsState coded meaning m caller call held (Err fault) after = (why : ReclaimRefusal) × EndsState coded meaning m caller (Err why) after × (fault ≡ handed_back call held why)
 
--- a whole call of this caller, which wishes this, ends with this answer and so many steps behind its first, and leaves the manager so: the state is that behind these steps,
--- and the lanes are those behind the one that settled the answer
+-- a whole call of this caller, which wishes this, ends with this answer and so many steps after its first, and leaves the manager so: the state is that after these steps,
+-- and the lanes are those after the one that settled the answer
 pub record CallsState {D : Type 0} (coded : Coded D) (meaning : DeskMeaning D) (m : LaneLink (RingState D)) (who : CallerId) (wished : Wish) (behind : ℕ) (said : Answer) (after : Manager) : Type 0 where
   pub left : LaneLink (RingState D)
   pub ends : FormEndsIn behind (ring_form meaning) meaning m who.number who.follows (Some wished) left (call_end said)

@@ -17,7 +17,7 @@ use Rattle.split_ring.specs.declared.sends.SendFault.{SendFault}
 use Rattle.split_ring.specs.declared.takes.Taken.{Taken}
 use Rattle.split_ring.specs.declared.takes.TakeFault.{TakeFault}
 
--- by the caller's own list before the call and after it: the answer of a send or a take tells no count that is below what the caller had seen, in
+-- by the caller's own list before the call and after it: the answer of a send or a take says no count that is below what the caller had seen, in
 -- the incarnation that it follows; a give makes a count that is above, and the caller has seen it then
 abbrev pub AnswerNotBelow : CallerId → Ask → Answer → List Event → List Event → Type 0
 AnswerNotBelow who (ask.Send message) said before after = (r : Result ℕ SendFault) × (said ≡ send_answer r) × IsSendNotBelow (seen (other who.end) who.follows before) r

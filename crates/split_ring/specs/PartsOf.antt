@@ -37,7 +37,7 @@ HoldsNoOther p held me = (number : ℕ) → HasNumber (pass_in me).hands number 
 abbrev pub HoldsItsOwn : Phase → SeatState → Type 0
 HoldsItsOwn p me = (number : ℕ) → HasNumber (buffer_in p) number → HasNumber (pass_in me).hands number
 
--- whether a caller has something in hand is told right
+-- whether a caller has something in hand is said right
 pub record TellsHands (is_holding : Bool) (me : SeatState) : Type 0 where
   pub some : is_holding ≡ true → (number : ℕ) × HasNumber (pass_in me).hands number
   pub none : is_holding ≡ false → (pass_in me).hands ≡ []

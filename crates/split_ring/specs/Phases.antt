@@ -1,4 +1,4 @@
--- What a phase of a call tells: the side state that is out, how many slots are, how many steps are done, and what the next step says (own).
+-- What a phase of a call says: the side state that is out, how many slots are, how many steps are done, and what the next step says (own).
 use Rattle.std.specs.Prelude.{◌≡◌, ◌+◌, ℕ, List, Option, Some, None, Result, Err}
 use Rattle.std.specs.Option.{option_map}
 use Rattle.rp_base.specs.declared.kinds.End.{End}
@@ -128,7 +128,7 @@ KeepsBuffer before (phase.LeavesSender said) = IsGivenBack (gives_back before) s
 KeepsBuffer before (phase.LeavesReceiver said) = IsGivenBack (gives_back before) said
 KeepsBuffer before other = gives_back before ≡ None
 
--- what the next step of a call of this end says: its number, with the same turn and the same buffer behind it; or the call's end
+-- what the next step of a call of this end says: its number, with the same turn and the same buffer after it; or the call's end
 abbrev pub IsNext : End → Phase → Progress → Phase → Type 0
 IsNext end before (progress.At number) after = (number ≡ steps_in before + 1) × (side_of end after ≡ side_of end before) × IsUnderWay after × IsUnsettled before × KeepsBuffer before after
 IsNext end before (progress.Done said) after = (after ≡ phase.Ended) × IsEndOf before said
@@ -160,7 +160,7 @@ answer_in other = None
 abbrev pub settled_end : Phase → Option CallEnd
 settled_end settled = option_map call_end (answer_in settled)
 
--- what a step says that left its call in this phase, and the phase behind it: one that ended the call left its answer there. A call that goes on
+-- what a step says that left its call in this phase, and the phase after it: one that ended the call left its answer there. A call that goes on
 -- has done a step, so none says 0
 abbrev pub ending_progress : Option Answer → Progress
 ending_progress (Some said) = progress.Done said
@@ -174,7 +174,7 @@ abbrev pub phase_behind : Step → Phase → Phase
 phase_behind (step.At number) left = left
 phase_behind step.Ended left = phase.Ended
 
--- the phase of a send, a take or a give behind a later step, by the stage that is done and by what is settled
+-- the phase of a send, a take or a give after a later step, by the stage that is done and by what is settled
 abbrev pub send_phase : Option (Result ℕ SendFault) → SendStage → SendCall → List ℕ → Phase
 send_phase None stage call message = phase.Sends stage call message
 send_phase (Some sent) stage call message = phase.LeavesSender (send_answer sent)

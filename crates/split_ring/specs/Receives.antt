@@ -75,7 +75,7 @@ abbrev pub took : {F : Type 0} → CallerId → List ℕ → Result Handing F �
 took who message (Ok handing) = Ok (taken_of who handing message)
 took who message (Err fault) = Err fault
 
--- the end of a take at its second look at the era, behind which the message of this number is handed over or not
+-- the end of a take at its second look at the era, after which the message of this number is handed over or not
 abbrev pub handing_end : ℕ → Result Taken Era → CallEnd
 handing_end number (Ok taken) = ends.Took number taken.verdict
 handing_end number (Err era) = ends.Dead era
@@ -98,7 +98,7 @@ IsTakeWalk meaning who (Ok taken) walk = (number : ℕ) × (message : List ℕ) 
     × (walk ≡ Step made.Left ∷ Step (made.Era (live_era who.follows)) ∷ Take who.end who.follows number message ∷ Step (made.Buffer buffer)
     ∷ message_look who number accepted ∷ Step (made.Era (live_era who.follows)) ∷ Step (made.Turn 0) ∷ [])
 
--- what a take tells of the counts of its lane is not below what its caller had seen
+-- what a take says of the counts of its lane is not below what its caller had seen
 abbrev pub IsTakeNotBelow : LaneCounts → Result Taken TakeFault → Type 0
 IsTakeNotBelow had (Ok taken) = had.handed ≤ taken.held.number
 IsTakeNotBelow had (Err (take_fault.Busy holder)) = Unit {0}
@@ -116,7 +116,7 @@ pub record IsTake {D : Type 0} (coded : Coded D) (meaning : DeskMeaning D) (who 
   pub is : IsTakeWalk meaning who answer walk
   pub done : HasDone coded meaning walk (hands_after answer) me me'
 
--- a take whose end is settled, behind its first step: the answer is that of the walk which these steps and the last one make
+-- a take whose end is settled, after its first step: the answer is that of the walk which these steps and the last one make
 pub record HasSettledTake {D : Type 0} (coded : Coded D) (meaning : DeskMeaning D) (who : CallerId) (answer : Result Taken TakeFault) (me me' : SeatState) : Type 0 where
   pub leaves : MayLeave lane_turn.Receiver who.end me'
   pub steps : List Event
@@ -136,7 +136,7 @@ pub record IsGiveAt (who : CallerId) (returned : ℕ) (work : Work) (me : SeatSt
   pub most : returned ≤ BOOK_MOST
   pub at : IsAt me (receive_call who work side 0 []) (receive_slots who side)
 
--- the answer of a give that was told the number of this buffer's message alone
+-- the answer of a give that was given the number of this buffer's message alone
 abbrev pub given_of : HeldBuffer → Result ℕ ℕ → Result ℕ GiveBusy
 given_of held (Ok number) = Ok number
 given_of held (Err holder) = Err (record { holder = holder; held = held })

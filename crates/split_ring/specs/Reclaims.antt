@@ -1,4 +1,4 @@
--- A reclaim: the parts that a caller has, how its seat stands, and what it leaves (own).
+-- A reclaim: the parts that a caller has, how its seat is, and what it leaves (own).
 use Rattle.std.specs.Prelude.{◌⊎◌, ◌≡◌, ◌+◌, ℕ, Bool, true, false, List, [], ◌∷◌, Option, Some, None}
 use Rattle.lane_model.specs.declared.recoveries.LaneTurn.TheVariants as lane_turn
 use Rattle.lane_model.specs.declared.recoveries.ReclaimRefusal.{ReclaimRefusal}
@@ -142,7 +142,7 @@ abbrev pub phase_of : {D : Type 0} → Option (RingCall D) → Phase
 phase_of None = phase.Ended
 phase_of (Some call) = call.phase
 
--- where its seat stands
+-- where its seat is
 abbrev pub StandsIn : LinkSizes → CallerId → Phase → SeatState → Type 0
 StandsIn z who (phase.Asked asked) me = IsInPhase z who (phase.Asked asked) me
 StandsIn z who (phase.Sends s c message) me = IsInPhase z who (phase.Sends s c message) me

@@ -83,7 +83,7 @@ pub record AreTold (books : Books) (told : End → LaneBooks) : Type 0 where
 abbrev pub next_view : View → View
 next_view v = record v { inc = v.inc + 1; reclaims = []; ended_passes = []; is_closed = false }
 
--- a reopening from this view has this answer, and leaves this view but for the copy. Each refusal tells what it read: the era, which the manager did not
+-- a reopening from this view has this answer, and leaves this view but for the copy. Each refusal says what it read: the era, which the manager did not
 -- know closed; the turn that was another's, or the manager's by another's seat, while the manager had those before it, and a caller is in use; what is held by the side states, by a caller in use; or that it is the last
 -- incarnation. The books are those of the incarnation that was closed
 abbrev pub IsReopening : {D : Type 0} → Coded D → DeskMeaning D → View → Result Books ReopenFault → View → Type 0

@@ -21,7 +21,7 @@ use Rattle.split_ring.specs.Calls.{IsInPhase, call_end}
 use Rattle.split_ring.specs.Focus.{seat_of}
 use Rattle.split_ring.specs.Handed.{Settles, StepsLanes}
 
--- how many steps a send with this answer has behind its first one
+-- how many steps a send with this answer has after its first one
 abbrev pub send_behind : Result ℕ SendFault → ℕ
 send_behind (Ok number) = 6
 send_behind (Err (fault.Busy holder)) = 0
@@ -29,7 +29,7 @@ send_behind (Err (fault.Dead era)) = 2
 send_behind (Err (fault.NoBuffer accepted returned)) = 3
 send_behind (Err (fault.BookFull accepted)) = 3
 
--- so many steps of this caller's call behind the first one, none of which ends it, lead from this state to that one
+-- so many steps of this caller's call after the first one, none of which ends it, lead from this state to that one
 unfoldable pub GoesOnTo : {D : Type 0} → ℕ → DeskMeaning D → LaneLink (RingState D) → ℕ → LaneLink (RingState D) → Type 0
 GoesOnTo zero meaning m caller left = left ≡ m
 GoesOnTo (suc more) meaning m caller left =
@@ -37,7 +37,7 @@ GoesOnTo (suc more) meaning m caller left =
     (number : ℕ) × (step.outcome ≡ outcome.At number) × GoesOnTo more meaning step.state caller left
 
 module _ {D : Type 0} (coded : Coded D) (meaning : DeskMeaning D) (who : CallerId) where
-  -- the call of this caller has come to this phase by so many steps behind its first one, from this state to the one that the seat knows; the lanes are as they were, or as the
+  -- the call of this caller has come to this phase by so many steps after its first one, from this state to the one that the seat knows; the lanes are as they were, or as the
   -- last of these steps settled
   pub record HasRun (z : LinkSizes) (steps : ℕ) (p : Phase) (m : LaneLink (RingState D)) (me : SeatState) : Type 0 where
     pub stands : IsInPhase z who p (seat_of who.number me)
@@ -47,7 +47,7 @@ module _ {D : Type 0} (coded : Coded D) (meaning : DeskMeaning D) (who : CallerI
     pub known : KnowsState coded me.0 left
     pub users : left.callers ≡ m.callers
 
-  -- a whole call of this caller, which wishes this, ends with this answer and so many steps behind its first one, and the seat knows the state that it leaves
+  -- a whole call of this caller, which wishes this, ends with this answer and so many steps after its first one, and the seat knows the state that it leaves
   pub record RunsCall (m : LaneLink (RingState D)) (wished : Wish) (behind : ℕ) (said : Answer) (me : SeatState) : Type 0 where
     pub left : LaneLink (RingState D)
     pub ends : FormEndsIn behind (ring_form meaning) meaning m who.number who.follows (Some wished) left (call_end said)

@@ -85,7 +85,7 @@ IsSendWalk z who message (Ok number) walk = (returned : ℕ) × (buffer : ℕ)
     × (walk ≡ Step made.Left ∷ Publish (other who.end) who.follows number message ∷ Step made.Entry ∷ Step (made.Buffer buffer)
     ∷ room_look who number returned ∷ Step (made.Era (live_era who.follows)) ∷ Step (made.Turn 0) ∷ [])
 
--- what a send tells of the counts of its lane is not below what its caller had seen
+-- what a send says of the counts of its lane is not below what its caller had seen
 abbrev pub IsSendNotBelow : LaneCounts → Result ℕ SendFault → Type 0
 IsSendNotBelow had (Ok number) = had.accepted ≤ number
 IsSendNotBelow had (Err (fault.Busy holder)) = Unit {0}
@@ -99,7 +99,7 @@ pub record IsSend {D : Type 0} (coded : Coded D) (meaning : DeskMeaning D) (z : 
   pub is : IsSendWalk z who message answer walk
   pub done : HasDone coded meaning walk same_hands me me'
 
--- a send whose end is settled, behind its first step: the answer is that of the walk which these steps and the last one make
+-- a send whose end is settled, after its first step: the answer is that of the walk which these steps and the last one make
 pub record HasSettled {D : Type 0} (coded : Coded D) (meaning : DeskMeaning D) (z : LinkSizes) (who : CallerId) (message : List ℕ) (answer : Result ℕ SendFault) (me me' : SeatState) : Type 0 where
   pub leaves : MayLeave lane_turn.Sender (other who.end) me'
   pub steps : List Event

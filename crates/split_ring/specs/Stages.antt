@@ -1,4 +1,4 @@
--- The phase of a call by its stage and by what stands in its place for a buffer (own).
+-- The phase of a call by its stage and by what is in its place for a buffer (own).
 use Rattle.std.specs.Prelude.{Option, None, Some}
 use Rattle.lane_model.specs.declared.calls.Answer.{Answer}
 use Rattle.lane_model.specs.declared.calls.Answer.TheVariants as answer

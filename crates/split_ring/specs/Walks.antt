@@ -25,7 +25,7 @@ module _ {D : Type 0} (coded : Coded D) (meaning : DeskMeaning D) where
       ⊎ (GoesOn coded meaning me (HasWord place n) me' ⊎ GoesOn coded meaning me (StoresWord place n) me'))
 
   -- the seat made the steps of these entries, the newest first, and no other: what it knows changed by them alone, and between them what is in
-  -- its slots changed as plain memory does. A handing has an entry of its own, behind that of the era that it read. No count that was read or made
+  -- its slots changed as plain memory does. A handing has an entry of its own, after that of the era that it read. No count that was read or made
   -- is below what the seat had seen
   abbrev pub HasStepped : List Event → SeatState → SeatState → Type 0
   HasStepped [] me me' = me'.0 ≡ me.0

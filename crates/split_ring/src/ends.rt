@@ -1,4 +1,4 @@
-//! The end of a caller's call in a reclaim, by its pass of a seat that may have several: a function for each part. What each asks and tells is of that pass alone, with the
+//! The end of a caller's call in a reclaim, by its pass of a seat that may have several: a function for each part. What each asks and says is of that pass alone, with the
 //! slots that are out with its call, which are in front.
 ghost use Rattle.std.specs.Prelude.{◌≡◌, ◌<◌, ◌++◌, ◌∷◌, length, if◌then◌else◌, [], Bool, true, false, IfOk, IfErr};
 ghost use Rattle.rp_base.specs.declared.limits.TheConstants.{CALLERS_MOST};
@@ -239,7 +239,7 @@ impl<D: Desk> SharedLink<D> {
         if era.is_live { Err(era) } else { Ok(()) }
     }
 
-    /// One attempt to take the receiver's turn for the manager. Of all the slots of the seat so many are out with the caller's call; the side state comes behind them.
+    /// One attempt to take the receiver's turn for the manager. Of all the slots of the seat so many are out with the caller's call; the side state comes after them.
     ///
     /// Errors: the holder of the turn, exactly where it was another's.
     fn claim(&self, seat: &mut LinkSeat, who: CallerId, own: u8, all: u8) -> Result<(), CallerNo>

@@ -1,4 +1,4 @@
-//! A shared link as a form of [`Link`], of which one step is taken at a time. It tells no state: what stands in its words is other callers'
+//! A shared link as a form of [`Link`], of which one step is taken at a time. It gives no state: what is in its words is other callers'
 //! doing too. What a step is the clauses of its methods say.
 ghost use Rattle.std.specs.Prelude.{◌≡◌};
 ghost use Rattle.split_ring.specs.CallPhases as phase;

@@ -1,4 +1,4 @@
-//! Where a held buffer stands.
+//! Where a held buffer is.
 ghost use Rattle.std.specs.Prelude.{◌≡◌, []};
 ghost use Rattle.split_ring.specs.Receives.{taken_of};
 
@@ -8,7 +8,7 @@ use lane_model::Held;
 use rp_base::{Buffer, CallerNo, Message};
 use std::marker::Model;
 
-/// Where a buffer stands that its caller has taken and not yet given back: another comes to stand in its place without
+/// Where a buffer is that its caller has taken and not yet given back: another comes to be in its place without
 /// a move of the room for its message. Contracts see the held buffer, as they see [`Held`].
 #[derive(Drop)]
 pub struct HeldPlace {
@@ -34,7 +34,7 @@ impl Model for HeldPlace {
 }
 
 impl HeldPlace {
-    /// A place for a buffer, as if there stood buffer 0 of lane 0 with message 0, of no bytes, in the hands of caller 0.
+    /// A place for a buffer, as if there was buffer 0 of lane 0 with message 0, of no bytes, in the hands of caller 0.
     pub fn new() -> HeldPlace
         ensures { result ≡ record { lane = 0; caller = 0; number = 0; buffer = 0; message = [] } }
     {
@@ -54,7 +54,7 @@ impl HeldPlace {
         }
     }
 
-    /// The place where this buffer stands.
+    /// The place where this buffer is.
     pub fn of(held: Held) -> HeldPlace
         ensures { result ≡ held }
     {
@@ -78,7 +78,7 @@ impl HeldPlace {
         place
     }
 
-    /// The buffer that stands there, out of its place.
+    /// The buffer that is there, out of its place.
     pub fn held(&self) -> Held
         ensures { result ≡ self.now }
     {
@@ -93,7 +93,7 @@ impl HeldPlace {
         )
     }
 
-    /// The buffer that stands in the other place stands here. It writes as many bytes as its message has.
+    /// The buffer that is in the other place is here. It writes as many bytes as its message has.
     pub fn set(&mut self, other: &HeldPlace)
         ensures { self.new ≡ other.now }
     {
@@ -104,7 +104,7 @@ impl HeldPlace {
         self.message.set(other.message.bytes(), &[]);
     }
 
-    /// The buffer stands there that was handed to this caller, with the message that is there.
+    /// The buffer is there that was handed to this caller, with the message that is there.
     pub(crate) fn hold(&mut self, who: CallerId, handing: Handing)
         ensures { self.new ≡ (taken_of who handing self.old.message).held }
     {

@@ -29,7 +29,7 @@ pub(crate) fn ring_sizes(entries: u32, device_sends: bool) -> RingSizes
     }
 }
 
-/// Appends the entry of a ring that names this buffer, with the idle words behind it.
+/// Appends the entry of a ring that names this buffer, with the idle words after it.
 fn push_entry(words: &mut Vec<u64>, buffer: u64) -> Result<(), NoMemory>
     ensures { IfOk result (λ _. words.new.items ≡ words.old.items ++ buffer ∷ 0 ∷ 0 ∷ 0 ∷ 0 ∷ 0 ∷ 0 ∷ 0 ∷ []) }
 {

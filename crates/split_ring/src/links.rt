@@ -74,7 +74,7 @@ impl<D: Desk> SharedLink<D> {
 
     /// A new link, live in its first incarnation, and the one who makes its callers.
     ///
-    /// Errors: only for want of memory.
+    /// Errors: only if memory runs out.
     pub fn make(
         alloc: Global,
         config: LinkConfig,

@@ -122,7 +122,7 @@ impl<D: Desk> SharedLink<D> {
         answer
     }
 
-    /// The steps of a send behind its first, up to the one that settles its end.
+    /// The steps of a send after its first, up to the one that settles its end.
     fn send_on(
         &self,
         seat: &mut LinkSeat,

@@ -15,7 +15,7 @@ use link_words::{DeskTable, LinkSeat, ReceiverState, SenderState, Slot};
 use rp_base::{CallerNo, End, Message, Verdict};
 use std::snapshot::Snapshot;
 
-/// How many messages were accepted, by the sender's side state, which is told for the proofs alone.
+/// How many messages were accepted, by the sender's side state, which is given for the proofs alone.
 pub(crate) fn accepted_in(slot: &Slot) -> (u64, Snapshot<SenderState>)
     requires { (x : SenderSide) × (slot.now ≡ Sender x) }
     ensures { (x : SenderSide) → slot.now ≡ Sender x → (result.0 ≡ x.accepted) × (result.1.value ≡ x) }
@@ -99,7 +99,7 @@ pub(crate) fn put_aside_in(slot: &mut Slot, caller: CallerNo)
     }
 }
 
-/// The first slots that are out, so many of them, go behind the others.
+/// The first slots that are out, so many of them, go after the others.
 pub(crate) fn turn_by(seat: &mut LinkSeat, count: u8)
     ensures same { (seat.new.table_id ≡ seat.old.table_id) × (seat.new.id ≡ seat.old.id) }
     ensures turned { seat.new.me ≡ (seat.old.me.0, turned_by count seat.old.me.1) }

@@ -1,4 +1,4 @@
-//! The words of a link as they stand, while the manager has its four turns.
+//! The words of a link as they are, while the manager has its four turns.
 ghost use Rattle.std.specs.Prelude.{◌≡◌, ◌<◌, ◌*◌, ◌%◌, ℕ, IfOk, IfErr, length, map, slice_index_or};
 ghost use Rattle.rp_base.specs.declared.limits.TheConstants.{MESSAGE_MOST};
 ghost use Rattle.rp_base.specs.declared.kinds.End.TheVariants as side;
@@ -31,7 +31,7 @@ fn ring_if(returns: bool) -> Ring
     if returns { Ring::Return } else { Ring::Forward }
 }
 
-/// Where the index of the return ring or of the forward ring of a lane stands.
+/// Where the index of the return ring or of the forward ring of a lane is.
 fn index_place(lane: End, returns: bool) -> usize
     ensures { result ≡ place_in (index_word lane returns) }
 {
@@ -71,7 +71,7 @@ impl<D: Desk> SharedLink<D> {
     ghost use Rattle.split_ring.specs.declared.callers.CallerId.{CallerId};
     ghost use Rattle.split_ring.specs.CallPhases.{Phase};
 
-    /// The era and the words of both lanes as they stand, while the manager has the four turns. The buffers of the link stand
+    /// The era and the words of both lanes as they are, while the manager has the four turns. The buffers of the link are
     /// from address 0 on, 512 bytes each, those of the lane to the host first.
     ///
     /// Errors: `StillTurn` exactly where a turn was another's, or a carried call's, with the holder of the first such turn: of the

@@ -61,7 +61,7 @@ pub(crate) enum Stage {
 #[derive(Drop)]
 pub(crate) struct Phase {
     pub stage: Stage,
-    /// Where the buffer stands that a give brings back or a take was handed, or a message to send.
+    /// Where the buffer is that a give brings back or a take was handed, or a message to send.
     pub place: HeldPlace,
 }
 

@@ -1,4 +1,4 @@
-//! The later steps of a call over link_words, by the pass of one caller of a seat that may have several: what each asks and tells is of that pass
+//! The later steps of a call over link_words, by the pass of one caller of a seat that may have several: what each asks and says is of that pass
 //! alone, with the slots that are out with its call, which are in front.
 ghost use Rattle.std.specs.Prelude.{◌≡◌, ◌+◌, ◌*◌, ◌%◌, None};
 ghost use Rattle.link_words.specs.Deeds.{Steps};

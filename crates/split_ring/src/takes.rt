@@ -44,7 +44,7 @@ pub struct Taken {
     pub verdict: Verdict,
 }
 
-/// What is told of a message that was handed over, beside its bytes.
+/// What is given of a message that was handed over, beside its bytes.
 #[derive(Drop)]
 pub struct Handing {
     pub number: u64,
@@ -196,7 +196,7 @@ impl<D: Desk> SharedLink<D> {
         answer
     }
 
-    /// The steps of a take behind its first, up to the one that settles its end, with the bytes in this message; `steps` counts them.
+    /// The steps of a take after its first, up to the one that settles its end, with the bytes in this message; `steps` counts them.
     fn take_on(
         &self,
         seat: &mut LinkSeat,

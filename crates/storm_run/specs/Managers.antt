@@ -51,7 +51,7 @@ pub record HasSentAll (end : End) (inc count least : ℕ) (own : List Event) : T
   pub kept : sends_in end inc own ≡ []
   pub found : least ≤ (seen end inc own).handed
 
--- such a caller behind the round: it is free again, and has done its work
+-- such a caller after the round: it is free again, and has done its work
 pub record IsDoneCaller (link : SharedLink Side) (plan : Plan) (number : ℕ) (caller : Caller) : Type 0 where
   pub free : IsFree link caller
   pub numbered : caller.id.number ≡ number
@@ -75,7 +75,7 @@ pub record HasMade (plan : Plan) (made : ℕ) (manager : Manager) : Type 0 where
 abbrev pub AreNumbered : SharedLink Side → List Caller → Type 0
 AreNumbered link callers = (number : ℕ) (d : Caller) → number < length callers → IsFree link (slice_index_or callers number d) × ((slice_index_or callers number d).id.number ≡ number)
 
--- one of these passes is that of this caller, as far as the books tell of it
+-- one of these passes is that of this caller, as far as the books say of it
 pub record HasPassOf (caller : Caller) (passes : List Pass) : Type 0 where
   pub place : ℕ
   pub pass : Pass

@@ -2,7 +2,7 @@
 use rp_base::CallerNo;
 use split_ring::Caller;
 
-/// Is told of each call of a round before it is made. A test may hold a worker up by it.
+/// Hears of each call of a round before it is made. A test may hold a worker up by it.
 pub trait Gate {
     /// This caller is about to make its call of this number: how many it has made in this round, up to 2^64 - 1.
     /// It returns.

@@ -64,7 +64,7 @@ impl Plan {
 
     /// The callers of a new link.
     ///
-    /// Errors: only for want of memory.
+    /// Errors: only if memory runs out.
     pub(crate) fn callers(
         &self,
         alloc: Global,

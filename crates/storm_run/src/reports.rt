@@ -12,7 +12,7 @@ use std::alloc::Global;
 use word_kinds::{Piece, push_line};
 
 /// The report of a storm by its books: a line for each lane, and one for each caller, with the number of its entries. Nothing
-/// is held behind a storm, so as many buffers are back as messages were handed over.
+/// is held after a storm, so as many buffers are back as messages were handed over.
 pub(crate) fn report(alloc: Global, plan: &Plan, books: &Books) -> Result<Vec<u8>, NoMemory>
     requires plan { IsPlan plan.now }
     requires books { AreStormBooks plan.now books.now }

@@ -19,7 +19,7 @@ use std::thread::Threads;
 /// a thread of its own, and passes the gate before each call. The round may wait, and for ever where a book is too
 /// small or the link is closed.
 ///
-/// Errors: only for want of memory, before any caller has begun.
+/// Errors: only if memory runs out, before any caller has begun.
 pub fn round<R: Threads + Wait + Sync, G: Gate + Sync>(
     rt: &R,
     _alloc: Global,

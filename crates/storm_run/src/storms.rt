@@ -28,7 +28,7 @@ use std::thread::Threads;
 /// Makes a link, has its callers make a round, closes the link, reclaims every caller and opens the next incarnation. The
 /// report is made from the books that this hands back: a line for each lane, and one for each caller. The storm may wait.
 ///
-/// Errors: only for want of memory.
+/// Errors: only if memory runs out.
 pub fn storm<R: Threads + Wait + Sync, G: Gate + Sync>(
     rt: &R,
     alloc: Global,

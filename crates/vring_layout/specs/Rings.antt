@@ -12,7 +12,7 @@ abbrev pub descriptor_bytes : ℕ → Bool → List ℕ
 descriptor_bytes addr device_writes =
     little_bytes 8 addr ++ little_bytes 4 MESSAGE_MOST ++ little_bytes 2 (if device_writes then 2 else 0) ++ little_bytes 2 0
 
--- the descriptor table (2.7.5): one for each buffer, which stand one after the other, and zeros (own)
+-- the descriptor table (2.7.5): one for each buffer, which are one after the other, and zeros (own)
 abbrev pub descriptor_table : RingWords → List ℕ
 descriptor_table words =
     flat_map (λ i. descriptor_bytes (words.base + MESSAGE_MOST * i) words.device_writes) (range_with_len 0 words.capacity) ++ replicate (16 * (words.num - words.capacity)) 0
@@ -31,7 +31,7 @@ abbrev pub used_ring : RingWords → List ℕ
 used_ring words =
     little_bytes 2 0 ++ little_bytes 2 words.used_idx ++ flat_map used_entry_bytes words.used ++ little_bytes 2 0
 
--- the whole ring (2.7): the used ring stands at the next multiple of align
+-- the whole ring (2.7): the used ring is at the next multiple of align
 abbrev pub ring_layout : ℕ → RingWords → List ℕ
 ring_layout align words =
     descriptor_table words ++ available_ring words ++ replicate (used_start words.num align - available_end words.num) 0 ++ used_ring words

@@ -87,7 +87,7 @@ impl UsedWords {
     }
 }
 
-/// What stands in a ring, beside what its sizes fix.
+/// What is in a ring, beside what its sizes fix.
 #[derive(Debug, Drop)]
 pub struct RingWords {
     /// The number of descriptors, and of entries of either ring.

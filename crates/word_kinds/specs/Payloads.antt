@@ -22,7 +22,7 @@ bytes_of_pairs (high ∷ low ∷ more) = byte_of high low ∷ bytes_of_pairs mor
 abbrev pub is_count : List ℕ → Bool
 is_count word = is_number_with (λ number. nat_le 1 number && nat_le number MESSAGE_MOST) (decimal_of word)
 
--- a byte as two digits, `*`, and how many times it stands there
+-- a byte as two digits, `*`, and how many times it is there
 abbrev pub is_repeated : List ℕ → Bool
 is_repeated [] = false
 is_repeated (high ∷ []) = false

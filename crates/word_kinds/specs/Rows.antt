@@ -7,7 +7,7 @@ use Rattle.word_kinds.specs.declared.slots.Slot.TheVariants as slot
 use Rattle.word_kinds.specs.Texts.{Word, Fixed}
 use Rattle.word_kinds.specs.Readings.{LineKind, OfText, OfName, OfNumber, OfDigits, OfOffset, OfBytes, OfRow, OfEscaped, OfTrace, OfLane, OfBound, OfDotted, OfSide, OfOpen, OfService, OfState, OfDriver, OfSwitch, is_channel, is_zeroless, is_clean, without_escapes, IsGood, word_read}
 
--- the kind of what stands in a place of a form
+-- the kind of what is in a place of a form
 abbrev pub kind_in : Slot → LineKind
 kind_in (slot.Text text) = OfText text.now
 kind_in slot.Name = OfName

@@ -1,8 +1,8 @@
--- How names and numbers are spelled in a script, and where its words stand (own).
+-- How names and numbers are spelled in a script, and where its words are (own).
 use Rattle.std.specs.Prelude.{ℕ, ◌+◌, ◌-◌, ◌*◌, Bool, false, ◌==◌, ◌&&◌, ◌||◌, not, nat_le, nat_lt, if◌then◌else◌, List, [], ◌∷◌, length, drop, Option, Some, None, unwrap_or, filter}
 use Rattle.std.specs.List.{list_all, slice_split, slice_index}
 
--- the words of a line stand between spaces
+-- the words of a line are between spaces
 abbrev pub words_of : List ℕ → List (List ℕ)
 words_of line = filter (λ word. not (length word == 0)) (slice_split (λ byte. byte == 32) line)
 

@@ -7,8 +7,8 @@ pub enum Cause {
     Lines,
     /// A line has a byte that is no visible character of ASCII and no space.
     Byte,
-    /// A line stands where its like may not stand: a command within an image, a recipe line outside
-    /// of one or behind another than it needs; or the end of an image is missing.
+    /// A line is where its like may not be: a command within an image, a recipe line outside
+    /// of one or after another than it needs; or the end of an image is missing.
     Block,
     /// The first word of a line begins no command and no recipe line.
     Command,

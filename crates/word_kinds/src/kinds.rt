@@ -20,7 +20,7 @@ pub enum Kind {
     /// The type of a vendor's entry: a number from 4.
     Vendor,
     /// A payload: `-` for none, 1 to 512 bytes as pairs of hexadecimal digits, or one byte and how
-    /// many times it stands there, as `00*512`.
+    /// many times it is there, as `00*512`.
     Payload,
     /// The number of a caller, less than [`CALLERS_MOST`].
     Caller,

@@ -37,7 +37,7 @@ fn is_count(word: &[u8]) -> bool
     }
 }
 
-/// Whether a word is a byte as two digits, `*`, and how many times it stands there.
+/// Whether a word is a byte as two digits, `*`, and how many times it is there.
 fn is_repeated(word: &[u8]) -> bool
     ensures { result ≡ is_repeated word.now }
 {

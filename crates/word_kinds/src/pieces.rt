@@ -94,7 +94,7 @@ fn push_joined(out: &mut Vec<u8>, words: &[Piece]) -> Result<(), AllocError>
     }
 }
 
-/// Appends each word behind a space.
+/// Appends each word after a space.
 fn push_more(out: &mut Vec<u8>, words: &[Piece]) -> Result<(), AllocError>
     ensures whole { OnOk result (out.new.items ≡ out.old.items ++ flat_map (λ word. 32 ∷ text (word_of word)) words.now) }
     ensures front { IsFront out.old.items out.new.items }
@@ -145,7 +145,7 @@ fn push_joined_places(out: &mut Vec<u8>, slots: &[Slot], values: &[Piece]) -> Re
     }
 }
 
-/// Appends the words of places, each behind a space.
+/// Appends the words of places, each after a space.
 fn push_more_places(out: &mut Vec<u8>, slots: &[Slot], values: &[Piece]) -> Result<(), AllocError>
     ensures whole { OnOk result (out.new.items ≡ out.old.items ++ flat_map (λ word. 32 ∷ text word) (filled (map kind_in slots.now) (map word_of values.now))) }
     ensures front { IsFront out.old.items out.new.items }

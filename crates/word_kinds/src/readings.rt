@@ -53,7 +53,7 @@ pub fn row_at(alloc: Global, words: &[&[u8]], place: usize) -> Result<Data, Allo
     Ok(Data::of(pairs(alloc, word_at(words, place))?))
 }
 
-/// The part before the first dot, and what stands behind it.
+/// The part before the first dot, and what comes after it.
 fn front_and_rest(text: &[u8]) -> (&[u8], &[u8])
     ensures front { result.0.now ≡ first_part (dot_parts text.now) }
     ensures rest { first_part (dot_parts result.1.now) ≡ first_part (other_parts (dot_parts text.now)) }
@@ -85,7 +85,7 @@ pub fn endpoint_at(words: &[&[u8]], place: usize) -> Endpoint
     }
 }
 
-/// The first byte of a text with escapes, and the text behind it.
+/// The first byte of a text with escapes, and the text after it.
 fn first_unescaped(text: &[u8]) -> Option<(u8, &[u8])>
     ensures some { IfSome result (λ found. without_escapes text.now ≡ found.0 ∷ without_escapes found.1.now) }
     ensures shorter { IfSome result (λ found. length found.1.now < length text.now) }

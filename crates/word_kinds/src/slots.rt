@@ -4,7 +4,7 @@ ghost use Rattle.word_kinds.specs.Rows.{kind_in, fits, fit};
 use crate::digits::is_name;
 use crate::readings::{channel, is_zeroless};
 
-/// What stands in a place of a form of transcript lines.
+/// What is in a place of a form of transcript lines.
 #[derive(Clone, Copy, Drop)]
 pub enum Slot<'a> {
     /// A fixed word.
@@ -46,7 +46,7 @@ pub enum Slot<'a> {
     Switch,
 }
 
-/// Whether a word may stand there.
+/// Whether a word may be there.
 fn fits(slot: &Slot, word: &[u8]) -> bool
     ensures { result ≡ fits (kind_in slot.now) word.now }
 {
@@ -63,7 +63,7 @@ fn fits(slot: &Slot, word: &[u8]) -> bool
     }
 }
 
-/// Whether each word may stand in its place, and there are as many.
+/// Whether each word may be in its place, and there are as many.
 #[tactic(auto, using(crate::proofs::Rows::fit_more))]
 pub fn fit(slots: &[Slot], words: &[&[u8]]) -> bool
     ensures { result ≡ fit (map kind_in slots.now) (map (λ word. word.now) words.now) }
@@ -82,7 +82,7 @@ pub fn fit(slots: &[Slot], words: &[&[u8]]) -> bool
     true
 }
 
-/// Whether each fixed word stands in its place, which is sooner told than what may stand in the
+/// Whether each fixed word is in its place, which is sooner told than what may be in the
 /// others.
 fn has_texts(slots: &[Slot], words: &[&[u8]]) -> bool
     requires { length slots.now ≡ length words.now }
