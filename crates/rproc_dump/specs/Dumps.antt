@@ -36,7 +36,7 @@ wish_view wish = record { is_quiet = wish.is_quiet; name = wish.name.now }
 abbrev pub named_wish : Bool → List ℕ → Option DumpWish
 named_wish is_quiet name = if is_name name then Some (record { is_quiet = is_quiet; name = name }) else None
 
--- what the words behind the program's name ask for: NAME, or -q NAME
+-- what the words after the program's name ask for: NAME, or -q NAME
 abbrev pub wish_of : List (List ℕ) → Option DumpWish
 wish_of [] = None
 wish_of (name ∷ []) = named_wish false name

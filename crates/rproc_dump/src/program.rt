@@ -31,7 +31,7 @@ pub(crate) fn run_dump<R: Threads + Wait + Sync, S: Source, F: FirmwareStore, T:
     requires { is_bare yard.old ≡ true }
     ensures { let at = devices S.Source F.FirmwareStore T.Sink in
         DumpEnds result (wish_of (map (λ word. word.now) words.now)) (at script.old store.old transcript.old) (at script.new store.new transcript.new)
-            yard.old yard.new (K.written out.old) (K.written out.new) (K.faults out.old) (K.faults out.new) }
+        yard.old yard.new (K.written out.old) (K.written out.new) (K.faults out.old) (K.faults out.new) }
 {
     let Some(wish) = read_words(words) else {
         return Ending::Usage;
