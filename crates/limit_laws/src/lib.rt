@@ -1,7 +1,8 @@
 // The limits and fixed numbers of the program, each with its value: definitions cite the constants of the code, and this says what those are.
+// And when a recovery finds other rings, which is fault 42.
 #![tactic(auto)]
 
-ghost use Rattle.std.specs.Prelude.{◌≡◌, ◌≤◌, ℕ, List, length};
+ghost use Rattle.std.specs.Prelude.{◌≡◌, ◌↔◌, ◌≤◌, ℕ, List, Option, None, length, true};
 ghost use Rattle.rp_base.specs.declared.limits.TheConstants.{BOOK_MOST, CALLERS_MOST, CAPACITY_MOST, CHANNELS_MOST, ENDPOINTS_MOST, IMAGE_MOST, MESSAGE_MOST, NAME_MOST, OBJECTS_MOST, PAYLOAD_MOST, RING_MOST, SCRIPT_LINES_MOST, SCRIPT_MOST, STANDARD_MEMORY, STEPS_MOST};
 ghost use Rattle.host_driver.specs.declared.drivers.TheConstants.{DRIVERS_MOST};
 ghost use Rattle.image_maker.specs.declared.demo.TheConstants.{SESSIONS_MOST};
@@ -17,6 +18,9 @@ ghost use Rattle.crash_recover.specs.declared.core_faults.TheConstants.{CALLER_O
 ghost use Rattle.command_run.specs.declared.core_drives.TheConstants.{STRETCH};
 ghost use Rattle.command_run.specs.declared.dumps.TheConstants.{DUMPS_MOST};
 ghost use Rattle.run_log.specs.declared.logs.TheConstants.{PIECE};
+ghost use Rattle.fw_load.specs.declared.rings.RingPair.{RingPair};
+ghost use Rattle.crash_recover.specs.CoreRecoveries.{rings_fault, same_rings};
+ghost use Rattle.crash_recover.specs.Cores.{CoreState, LoadState, loaded_rings};
 ghost use Rattle.lane_model.specs.Links.{LinkState};
 ghost use Rattle.channel_bus.specs.Sides.{EndState};
 ghost use Rattle.link_bench.specs.declared.acts.ActAnswer.{ActAnswer};
@@ -62,6 +66,13 @@ pub fn core_limits()
     ensures own_callers { OWN_CALLERS ≡ 2 }
     ensures host_caller { HOST_CALLER ≡ 0 }
     ensures worker_caller { WORKER_CALLER ≡ 1 }
+{}
+
+/// Rings are the same where they are equal in each field. So a recovery finds no fault in the rings of an image exactly where they are
+/// those of the load before, or neither has any.
+pub fn changed_rings()
+    ensures same { (one other : Option RingPair) → same_rings one other ≡ true ↔ one ≡ other }
+    ensures fault { (core : CoreState) (given : LoadState) → rings_fault core given ≡ None ↔ loaded_rings core.loaded ≡ given.rings }
 {}
 
 /// The limits of scripts: bytes, lines, links and cores together, steps of a run, bytes of a name, dumps, sessions of a demo; the bytes of a

@@ -6,3 +6,4 @@ pub mod SpelledCalls
 pub mod SpelledCores
 pub mod SpelledRuns
 pub mod Transcripts
+pub mod SoundText

@@ -1,1 +1,2 @@
 pub mod ByteStores
+pub mod SoundTexts
