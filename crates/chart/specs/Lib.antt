@@ -1,5 +1,4 @@
 pub mod Keys
-pub mod Marks
 pub mod Readings
 pub mod Rows
 pub mod Orders

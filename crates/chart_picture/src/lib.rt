@@ -7,3 +7,4 @@ mod marks;
 mod measures;
 
 pub use drawings::draw;
+pub use measures::LABEL_MOST;

@@ -1,19 +1,19 @@
 ghost use Rattle.std.specs.Prelude.{◌≡◌};
-ghost use Rattle.chart.specs.Marks.{teller_of, deed_of, said_by};
+ghost use Rattle.event_marks.specs.Marks.{teller_of, deed_of, said_by};
 
 use journal::Event;
 use rp_base::{End, Name};
 
 /// Of which link or core a line tells, and of which of its callers, if of one.
 #[derive(Clone, Copy)]
-pub(crate) struct Teller {
-    pub(crate) name: Name,
-    pub(crate) caller: Option<u64>,
+pub struct Teller {
+    pub name: Name,
+    pub caller: Option<u64>,
 }
 
 /// What a line says that a chart shows by more than its text.
 #[derive(Clone, Copy)]
-pub(crate) enum Deed {
+pub enum Deed {
     /// An incarnation begins.
     Opens(u64),
     /// An incarnation ends.
@@ -32,13 +32,13 @@ pub(crate) enum Deed {
 
 /// A line of a link or a core.
 #[derive(Clone, Copy)]
-pub(crate) struct Said {
-    pub(crate) teller: Teller,
-    pub(crate) deed: Deed,
+pub struct Said {
+    pub teller: Teller,
+    pub deed: Deed,
 }
 
 /// What an event says of a link or a core, if it tells of one.
-pub(crate) fn said_by(event: &Event) -> Option<Said>
+pub fn said_by(event: &Event) -> Option<Said>
     ensures { result ≡ said_by event.now }
 {
     let teller = teller_of(event)?;
