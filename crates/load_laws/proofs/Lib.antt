@@ -4,3 +4,5 @@ pub mod ByteParts
 pub mod PatchParts
 pub mod UseParts
 pub mod RingParts
+pub mod PlaceRefusals
+pub mod NumberParts

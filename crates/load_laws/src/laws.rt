@@ -1,14 +1,17 @@
 //! Laws of loads. Each is the contract of an empty function, and speaks of definitions alone.
 
-ghost use Rattle.std.specs.Prelude.{◌≡◌, ℕ, List, Some, Ok, IfSome, slice_index};
+ghost use Rattle.std.specs.Prelude.{◌≡◌, ℕ, true, List, Some, Ok, IfSome, is_some, slice_index};
 ghost use Rattle.resource_table.specs.Entries.{entries_of};
 ghost use Rattle.resource_table.specs.PatchedEntries.{patched_entries};
 ghost use Rattle.resource_table.specs.Tables.{GoodTable};
+ghost use Rattle.memory_pool.specs.Faults.{region_fault_number};
 ghost use Rattle.memory_pool.specs.Placements.{placement};
+ghost use Rattle.memory_pool.specs.Regions.{region_fault};
 ghost use Rattle.memory_pool.specs.Soundness.{SoundRegions};
 ghost use Rattle.memory_pool.specs.declared.blocks.Block.{Block};
 ghost use Rattle.memory_pool.specs.declared.regions.Region.{Region};
-ghost use Rattle.fw_load.specs.Loading.{IsLoaded, Loads};
+ghost use Rattle.fw_load.specs.Faults.{load_fault_number};
+ghost use Rattle.fw_load.specs.Loading.{IsLoaded, Loads, load_fault};
 ghost use Rattle.fw_load.specs.declared.loading.Loaded.{Loaded};
 ghost use Rattle.fw_load.specs.Memory.{memory_at, memory_of};
 ghost use Rattle.fw_load.specs.Tables.{entries_in, fixes_of, patched_in, table_of};
@@ -21,6 +24,13 @@ ghost use Rattle.load_laws.specs.RingPlaces.{HasBlocks};
 pub fn loads_by_parts()
     ensures parts { (image : List ℕ) (regions : List Region) → SoundRegions regions → Loads image regions → FitsRegions image regions }
     ensures whole { (image : List ℕ) (regions : List Region) → SoundRegions regions → FitsRegions image regions → Loads image regions }
+{}
+
+/// Each fault for which an image isn't loaded, or a region not added, has a number. So it isn't that memory ran out, and has no such fault
+/// inside: where memory runs out, this is the whole answer.
+pub fn refused_by_number()
+    ensures image { (image : List ℕ) (regions : List Region) → IfSome (load_fault image regions) (λ why. is_some (load_fault_number why) ≡ true) }
+    ensures region { (regions : List Region) (region : Region) → IfSome (region_fault regions region) (λ why. is_some (region_fault_number why) ≡ true) }
 {}
 
 /// At each device address that a block of memory holds stands, behind a load, the byte of the patched table where it was copied, else that of

@@ -51,7 +51,7 @@ impl Devices {
     }
 
     /// Takes the number of one line. False where there is no such line.
-    fn set(&mut self, what: &str, number: u32) -> bool {
+    pub(crate) fn set(&mut self, what: &str, number: u32) -> bool {
         match what {
             "source length" => self.source_length = number as usize,
             "source most" => self.source_most = number as usize,

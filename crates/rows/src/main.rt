@@ -10,7 +10,7 @@ mod storms;
 mod threads;
 
 use crate::devices::calls;
-use crate::rows::{Row, names_in};
+use crate::rows::{Row, names_in, runs_of};
 use crate::storms::run_storms;
 use crate::threads::run_threads;
 use rp_io::{MemorySink, MemorySource, MemoryStore};
@@ -24,8 +24,9 @@ use std::thread::Threads;
 fn main(rt: HostRuntime) -> io::Result<()> {
     let mut out = io::writer(&rt);
     for name in names_in(&rt, "rows")?.iter() {
-        let row = Row::read(&rt, name.as_str())?;
-        run_row(&rt, name.as_str(), row, &mut out)?;
+        for (title, row) in runs_of(&rt, name.as_str())? {
+            run_row(&rt, title.as_str(), row, &mut out)?;
+        }
     }
     run_threads(&rt, fs::read(&rt, "threads/script")?, &mut out)?;
     run_storms(&rt, &mut out)

@@ -13,6 +13,37 @@ pub struct Row {
     pub devices: Devices,
 }
 
+/// A line of `devices` that takes each number of a range in turn: from `first` on, and below `end`.
+#[derive(Drop)]
+struct Each {
+    what: String,
+    first: u32,
+    end: u32,
+}
+
+impl Each {
+    /// The file `each` of a row, one line as `sink fails 0..265`, or none where there is no such file.
+    fn read(rt: &HostRuntime, name: &str) -> io::Result<Option<Each>> {
+        let Some(bytes) = file_of(rt, name, "each")? else {
+            return Ok(None);
+        };
+        let text = text_of(bytes)?;
+        let (what, first, end) = parts_of(text.as_str()).ok_or(ErrorKind::InvalidData)?;
+        Ok(Some(Each {
+            what: String::from_str(rt.alloc(), what)?,
+            first,
+            end,
+        }))
+    }
+}
+
+/// A line as `sink fails 0..265` and its parts.
+fn parts_of(text: &str) -> Option<(&str, u32, u32)> {
+    let (what, range) = text.trim_end().rsplit_once(' ')?;
+    let (first, end) = range.split_once("..")?;
+    Some((what, first.parse().ok()?, end.parse().ok()?))
+}
+
 impl Row {
     /// The row of this name, from its folder in `rows`: the files `words` (without it the word is
     /// `run`), `script`, `devices` and those of the folder `firmware`.
@@ -30,6 +61,24 @@ impl Row {
             devices,
         })
     }
+}
+
+/// The runs of the row of this name, each under its title: one, or where it has the file `each` one for each of its numbers.
+pub(crate) fn runs_of(rt: &HostRuntime, name: &str) -> io::Result<Vec<(String, Row)>> {
+    let mut runs = Vec::new(rt.alloc());
+    let Some(each) = Each::read(rt, name)? else {
+        runs.push((String::from_str(rt.alloc(), name)?, Row::read(rt, name)?))?;
+        return Ok(runs);
+    };
+    for number in each.first..each.end {
+        let mut row = Row::read(rt, name)?;
+        if !row.devices.set(each.what.as_str(), number) {
+            return Err(ErrorKind::InvalidData.into());
+        }
+        let title = format!(in rt.alloc(); "{name}, {} {number}", each.what)?;
+        runs.push((title, row))?;
+    }
+    Ok(runs)
 }
 
 /// The bytes with zeros behind them, so many in all where there are fewer.
