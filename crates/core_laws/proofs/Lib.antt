@@ -17,3 +17,4 @@ pub mod CoreActs
 pub mod Starts
 pub mod Beginnings
 pub mod ClosedMoves
+pub mod NamedFaults

@@ -4,3 +4,4 @@ pub mod FoundImages
 pub mod Beginnings
 pub mod ClosedLinks
 pub mod DriveParts
+pub mod NamedFaults

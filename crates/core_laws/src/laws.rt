@@ -1,6 +1,7 @@
 //! Laws of the links of benches and of cores. Each is the contract of an empty function, and speaks of definitions alone.
 
 ghost use Rattle.std.specs.Prelude.{◌≡◌, ◌≢◌, ◌↔◌, ◌<◌, ◌+◌, ℕ, Bool, false, true, List, IfSome, None, Some, Ok};
+ghost use Rattle.std.specs.Result.{IfErr};
 ghost use Rattle.rp_io.specs.Images.{ImageAnswer};
 ghost use Rattle.rp_base.specs.declared.limits.TheConstants.{CALLERS_MOST};
 ghost use Rattle.rp_base.specs.declared.kinds.End.{End};
@@ -19,7 +20,7 @@ ghost use Rattle.link_bench.specs.BenchCrashes.{after_close, after_reclaim, afte
 ghost use Rattle.link_bench.specs.declared.acts.LinkAct.{LinkAct};
 ghost use Rattle.link_bench.specs.Acts.{IsFitAct, link_act};
 ghost use Rattle.link_bench.specs.Watchers.{nobody_sees};
-ghost use Rattle.crash_recover.specs.CoreBoots.{boot_of, core_bench, handover_of};
+ghost use Rattle.crash_recover.specs.CoreBoots.{as_unit, boot_of, core_bench, core_fault_of_start, handover_of, in_short, power_of};
 ghost use Rattle.link_bench.specs.BenchEnds.{bench_to_reopen, crashed_bench, reopen_refusal_of};
 ghost use Rattle.crash_recover.specs.CoreCrashes.{report_of};
 ghost use Rattle.crash_recover.specs.CoreLeaves.{detach_of, shutdown_of};
@@ -36,6 +37,7 @@ ghost use Rattle.core_laws.specs.DriveParts.{MayDrive};
 ghost use Rattle.proc_state.specs.Lives.{CoreLife, most, recovery_fault};
 ghost use Rattle.rp_base.specs.declared.kinds.LifeState.TheVariants as state;
 ghost use Rattle.core_laws.specs.FoundImages.{FindsLoadable};
+ghost use Rattle.core_laws.specs.NamedFaults.{IsNamed};
 ghost use Rattle.core_laws.specs.Beginnings.{BeginsEmpty, BeginsLife, ReopensNext, begins_life};
 ghost use Rattle.crash_recover.specs.declared.core_answers.Start.{Start};
 ghost use Rattle.rp_base.specs.declared.kinds.End.TheVariants as side;
@@ -237,4 +239,12 @@ pub fn link_ready()
         → let after = (start_walk bench steps caller wanted).bench in HasNoneBegun after × IsReadyBench actors after }
     ensures reclaim { (actors : ActorsState) (bench : BenchState) (caller : ℕ) → 1 < caller → HasNoneBegun bench → IsReadyBench actors bench
         → let after = reclaim_leaves bench caller (link_reclaim_refusal (link_in bench) caller) in HasNoneBegun after × IsReadyBench actors after }
+{}
+
+/// Where memory doesn't run out a boot, a handover and a recovery are refused for another reason, which has no such fault inside: that memory
+/// ran out is always the whole answer.
+pub fn named_starts()
+    ensures boot { (core : CoreState) (name : List ℕ) (found : ImageAnswer) → IfErr (in_short power_of core_fault_of_start (boot_of core name found)).answer IsNamed }
+    ensures handover { (core : CoreState) (name : List ℕ) (found : ImageAnswer) → IfErr (in_short as_unit core_fault_of_start (handover_of core name found)).answer IsNamed }
+    ensures recovery { (core : CoreState) (found : ImageAnswer) → IfErr (in_short as_unit core_fault_of_start (recovery_of core found)).answer IsNamed }
 {}

@@ -12,7 +12,7 @@ unfolding lib.Count.ones
 eight = refl
 
 pub run-requires-after_bounds : goal.run-requires-after_bounds
-run-requires-after_bounds g c κs = record { hosts = (omega arith, omega arith); remotes = (omega arith, omega arith); count = (omega arith, omega arith); num = (four, omega arith) }
+run-requires-after_bounds g c κs = λ bounds. record { hosts = (omega arith, omega arith); remotes = (omega arith, omega arith); count = (omega arith, omega arith); num = (four, omega arith) }
 
 pub run-requires-2-after_bounds : goal.run-requires-2-after_bounds
-run-requires-2-after_bounds g c κs = record { hosts = (omega arith, omega arith); remotes = (omega arith, omega arith); count = (omega arith, omega arith); num = (eight, omega arith) }
+run-requires-2-after_bounds g c κs = λ bounds. record { hosts = (omega arith, omega arith); remotes = (omega arith, omega arith); count = (omega arith, omega arith); num = (eight, omega arith) }
