@@ -1,0 +1,4 @@
+pub mod Machines
+pub mod Boards
+pub mod Lines
+pub mod Texts

@@ -1,0 +1,4 @@
+pub mod Aliases
+pub mod Placings
+pub mod Walks
+pub mod LoadFaults
