@@ -27,7 +27,7 @@ abbrev pub arrow_in : Stand → Option Arrow
 arrow_in stand.Aside = None
 arrow_in (stand.At lifeline mark) = arrow_at lifeline mark
 
--- what a row tells of an end: its place and its lifeline, where it is that end
+-- what a row says of an end: its place and its lifeline, where it is that end
 abbrev pub told_by : ArrowEnd → ℕ → Option Arrow → Option Told
 told_by end row None = None
 told_by end row (Some arrow) = if is_same_arrow_end arrow.end end then Some (record { row = row; lifeline = arrow.lifeline }) else None
@@ -47,7 +47,7 @@ partner_in lifelines told = record { row = told.row; column = column_of lifeline
 abbrev pub partner_of : List Lifeline → List Row → ArrowEnd → Option Partner
 partner_of lifelines rows end = option_map (partner_in lifelines) (first_of (other_end end) 0 rows)
 
--- the column of the lifeline on which a row stands
+-- the column of the lifeline on which a row is
 abbrev pub column_in : List Lifeline → Stand → ℕ
 column_in lifelines stand.Aside = 0
 column_in lifelines (stand.At lifeline mark) = column_of lifelines lifeline

@@ -1,4 +1,4 @@
--- The ends of arrows, as a transcript tells them and as a chart draws them (own).
+-- The ends of arrows, as a transcript says them and as a chart draws them (own).
 use Rattle.std.specs.Prelude.{◌≡◌, ◌<◌, ℕ, Bool, true, false, List, Option, Some, None, slice_get, unwrap_or, option_and_then}
 use Rattle.std.specs.Option.{option_map_or}
 use Rattle.journal.specs.declared.events.Event.{Event}
@@ -24,7 +24,7 @@ pub record End : Type 0 where
   pub number : ℕ
   pub is_sent : Bool
 
--- a sent line tells of the one end, a took line of the other
+-- a sent line gives the one end, a took line the other
 abbrev pub told_in : Teller → Deed → Option End
 told_in teller (deed.Sent number) = Some (record { name = teller.name; caller = unwrap_or teller.caller 0; number = number; is_sent = true })
 told_in teller (deed.Took number is_dropped) = Some (record { name = teller.name; caller = unwrap_or teller.caller 0; number = number; is_sent = false })

@@ -12,7 +12,7 @@ use Rattle.chart.specs.declared.rows.Row.{Row}
 use Rattle.chart.specs.Keys.{is_same_name, is_same_side, is_same_lifeline}
 use Rattle.chart.specs.Rows.{own}
 
--- lifelines in the order in which they first stand in a list, each once
+-- lifelines in the order in which they first come in a list, each once
 abbrev pub distinct : List Lifeline → List Lifeline
 distinct lifelines = insert_all is_same_lifeline [] lifelines
 
@@ -44,7 +44,7 @@ group_of all lifeline =
 abbrev pub in_order : List Lifeline → List Lifeline
 in_order all = flat_map (group_of all) all
 
--- the lifelines that rows stand on, each once
+-- the lifelines that rows are on, each once
 abbrev pub seats_of : List Row → List Lifeline
 seats_of rows = distinct (flat_map lifelines_in rows)
 

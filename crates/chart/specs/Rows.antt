@@ -66,7 +66,7 @@ own name = record { name = name; side = side.Own; caller = 0 }
 abbrev pub of_caller : List ℕ → ℕ → End → Lifeline
 of_caller name number end = record { name = name; side = side_of end; caller = number }
 
--- a line stands on the lifeline of its caller, also the line that makes it, and else on that of its link or core
+-- a line is on the lifeline of its caller, also the line that makes it, and else on that of its link or core
 abbrev pub lifeline_in : List ℕ → Deed → Option ℕ → List Said → Lifeline
 lifeline_in name (deed.Joins number end) caller past = of_caller name number end
 lifeline_in name _ (Some number) past = of_caller name number (end_of name number past)
@@ -102,7 +102,7 @@ mark_in said deed.Other past = mark.Note
 abbrev pub mark_of : Said → List Said → Mark
 mark_of said past = mark_in said said.deed past
 
--- what stands behind the first space
+-- what comes after the first space
 abbrev pub behind : List ℕ → Option ℕ → List ℕ
 behind text (Some place) = drop (place + 1) text
 behind text None = []
@@ -110,7 +110,7 @@ behind text None = []
 abbrev pub behind_space : List ℕ → List ℕ
 behind_space text = behind text (position (λ byte. byte == 32) text)
 
--- what a line says behind its link or core and its caller, where it tells of these
+-- what a line says after its link or core and its caller, where it is about these
 abbrev pub shown_at : Option ℕ → List ℕ → List ℕ
 shown_at None text = behind_space text
 shown_at (Some caller) text = behind_space (behind_space text)
@@ -143,7 +143,7 @@ rows_of events = rows_from [] events
 abbrev pub rows_in : LineRange → List Row → List Row
 rows_in lines rows = take lines.count (drop lines.skipped rows)
 
--- the tables keep what was last told
+-- the tables keep what was last said
 pub record IsWalk (past : List Said) (walk : Walk) : Type 0 where
   pub ends : (caller : Caller) → get is_same_caller walk.ends caller ≡ last_of (joined_by caller) past
   pub lives : (name : List ℕ) → get is_same_name walk.lives name ≡ last_of (opened_by name) past

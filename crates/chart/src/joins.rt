@@ -15,9 +15,9 @@ use std::alloc::Global;
 /// Where a row is drawn.
 #[derive(Clone, Copy)]
 pub struct Place {
-    /// The place of its lifeline among the lifelines, and 0 where it stands on none.
+    /// The place of its lifeline among the lifelines, and 0 where it is on none.
     pub column: u32,
-    /// The other end of its arrow, where it is one end and the other is told.
+    /// The other end of its arrow, where it is one end and the other is known.
     pub partner: Option<Partner>,
 }
 
@@ -112,7 +112,7 @@ fn arrow_in(stand: &Stand) -> Option<Arrow>
     }
 }
 
-/// The column of the lifeline on which a row stands.
+/// The column of the lifeline on which a row is.
 fn column_in(lifelines: &IndexSet<Lifeline>, stand: &Stand) -> u32
     requires { length lifelines.now.keys ≤ LIFELINES_MOST }
     ensures { result ≡ column_in lifelines.now.keys stand.now }

@@ -1,6 +1,6 @@
 use rp_base::Name;
 
-/// Where a lifeline stands in its link or core: callers of the host to the left of its own, those of
+/// Where a lifeline is in its link or core: callers of the host to the left of its own, those of
 /// the remote to the right.
 #[derive(Clone, Copy, Debug, PartialEq, Eq, Hash)]
 pub enum Side {

@@ -9,7 +9,7 @@ ghost use Rattle.chart.specs.Charts.{first_of};
 ghost use Rattle.chart.specs.Laws.{IsFirst, end_drawn, end_told};
 ghost use Rattle.chart.specs.Rows.{rows_of};
 
-/// The ends of arrows that the rows of a run are, are those that its events tell, in order: each sent
+/// The ends of arrows that the rows of a run show are those that its events say, in order: each sent
 /// and each took line has one, with its name, its caller and its number.
 pub fn ends_in_order()
     ensures { (events : List Event) → filter_map end_drawn (rows_of events) ≡ filter_map end_told events }

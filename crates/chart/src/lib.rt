@@ -1,4 +1,4 @@
-// A chart of a run: its lifelines, what stands at each line of its transcript, and the arrow of each message.
+// A chart of a run: its lifelines, what is at each line of its transcript, and the arrow of each message.
 #![tactic(auto)]
 
 mod charts;

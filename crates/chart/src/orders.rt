@@ -10,7 +10,7 @@ use indexmap::IndexSet;
 use rp_base::{Name, NoMemory};
 use std::alloc::Global;
 
-/// The lifelines that rows stand on, each once.
+/// The lifelines that rows are on, each once.
 pub(crate) fn seats_of(alloc: Global, rows: &[Row]) -> Result<IndexSet<Lifeline>, NoMemory>
     ensures { IfOk result (λ seats. seats.keys ≡ seats_of rows.now) }
 {
@@ -54,7 +54,7 @@ fn own(name: Name) -> Lifeline
     }
 }
 
-/// Lifelines in the order in which they first stand in a list, each once.
+/// Lifelines in the order in which they first come in a list, each once.
 fn distinct(alloc: Global, lifelines: &[Lifeline]) -> Result<IndexSet<Lifeline>, NoMemory>
     ensures { IfOk result (λ set. set.keys ≡ distinct lifelines.now) }
 {
@@ -90,7 +90,7 @@ fn is_own(side: Side) -> bool
     }
 }
 
-/// Appends the lifelines of a link or a core that stand on a side.
+/// Appends the lifelines of a link or a core that are on a side.
 fn push_side(
     order: &mut Vec<Lifeline>,
     seats: &[Lifeline],
@@ -107,7 +107,7 @@ fn push_side(
     Ok(())
 }
 
-/// Whether a lifeline is that of a link or a core and stands on a side.
+/// Whether a lifeline is that of a link or a core and is on a side.
 fn stands(name: Name, side: Side, seat: &Lifeline) -> bool
     ensures { result ≡ stands name side seat.now }
 {

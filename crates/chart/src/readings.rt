@@ -61,7 +61,7 @@ pub fn read_events(alloc: Global, bytes: &[u8]) -> Result<Vec<Event>, EventsFaul
     Ok(events)
 }
 
-/// The first line of a text that isn't empty, and what stands behind it.
+/// The first line of a text that isn't empty, and what comes after it.
 fn cut_line(text: &[u8]) -> (&[u8], &[u8])
     requires { 0 < length text.now }
     ensures lines { lines_of text.now ≡ result.0.now ∷ lines_of result.1.now }

@@ -27,7 +27,7 @@ pub enum Mark {
     Arrow(ArrowEnd, bool),
 }
 
-/// Where a row stands.
+/// Where a row is.
 #[derive(Clone, Copy)]
 pub enum Stand {
     /// Beside all lifelines.
@@ -36,7 +36,7 @@ pub enum Stand {
     At(Lifeline, Mark),
 }
 
-/// A row of a chart: where it stands, and what its line says behind the name and the caller.
+/// A row of a chart: where it is, and what its line says after the name and the caller.
 #[derive(Drop)]
 pub struct Row {
     pub stand: Stand,
@@ -107,7 +107,7 @@ impl Walk {
         })
     }
 
-    /// The lifeline on which a line stands.
+    /// The lifeline on which a line is.
     fn lifeline(&self, said: &Said) -> Lifeline
         ensures { (past : List Said) → IsWalk past self.now → result ≡ lifeline_of said.now past }
     {
@@ -219,7 +219,7 @@ fn lane_of(end: End, is_sent: bool) -> u64
     }
 }
 
-/// The side on which the callers of an end stand.
+/// The side on which the callers of an end are.
 fn side_of(end: End) -> Side
     ensures { result ≡ side_of end }
 {
@@ -229,7 +229,7 @@ fn side_of(end: End) -> Side
     }
 }
 
-/// What the line of an event says behind its link or core and its caller.
+/// What the line of an event says after its link or core and its caller.
 fn label(alloc: Global, event: &Event, teller: Option<Teller>) -> Result<Data, NoMemory>
     ensures { IfOk result (λ label. label ≡ label_of teller (line event.now)) }
 {
@@ -239,7 +239,7 @@ fn label(alloc: Global, event: &Event, teller: Option<Teller>) -> Result<Data, N
     Data::copy_of(alloc, shown_of(text.as_slice(), teller))
 }
 
-/// What a text says behind its link or core and its caller, where it tells of these.
+/// What a text says after its link or core and its caller, where it is about these.
 fn shown_of(text: &[u8], teller: Option<Teller>) -> &[u8]
     ensures { result.now ≡ shown_of teller text.now }
 {
@@ -250,7 +250,7 @@ fn shown_of(text: &[u8], teller: Option<Teller>) -> &[u8]
     }
 }
 
-/// What stands behind the first space.
+/// What comes after the first space.
 fn behind_space(text: &[u8]) -> &[u8]
     ensures { result.now ≡ behind_space text.now }
 {

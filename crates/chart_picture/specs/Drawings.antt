@@ -19,7 +19,7 @@ use Rattle.chart_picture.specs.Measures.{x_of, y_of, height_of}
 use Rattle.chart_picture.specs.Heads.{lifelines_shapes}
 use Rattle.chart_picture.specs.Marks.{mark_shapes}
 
--- a label stands in its bar, or beside its lifeline: the callers of the host have theirs to the left
+-- a label is in its bar, or beside its lifeline: the callers of the host have theirs to the left
 abbrev pub beside_style : Side → Style
 beside_style side.Host = style.LeftLabel
 beside_style side.Own = style.RightLabel
@@ -44,7 +44,7 @@ label_x mark.Closing side x = x
 label_x mark.Crash side x = x
 label_x (mark.Arrow end is_dropped) side x = beside_x side x
 
--- a label, or its front where it is long
+-- a label, or its prefix where it is long
 abbrev pub clipped : List ℕ → List ℕ
 clipped label = if nat_le (length label) LABEL_MOST then label else take LABEL_MOST label ++ codes "..."
 

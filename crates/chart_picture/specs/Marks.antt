@@ -1,4 +1,4 @@
--- What a row shows on its lifeline, which stands at x, in its height y (own).
+-- What a row shows on its lifeline, which is at x, in its height y (own).
 use Rattle.std.specs.Prelude.{ℕ, ◌+◌, ◌-◌, ◌/◌, Bool, true, false, if◌then◌else◌, List, [], ◌∷◌, ◌++◌, Option, Some, None}
 use Rattle.std.specs.Fmt.{decimal}
 use Rattle.chart.specs.declared.keys.Side.{Side}
@@ -30,7 +30,7 @@ abbrev pub sent_shapes : Side → Option Partner → ℕ → ℕ → List Shape
 sent_shapes side None x y = shape.Line style.Loose x y (inward side x) y ∷ dot x y ∷ []
 sent_shapes side (Some partner) x y = dot x y ∷ []
 
--- where it was taken: the arrow from its send with its number, or a line that begins on the way where its send isn't told
+-- where it was taken: the arrow from its send with its number, or a line that begins on the way where its send isn't known
 abbrev pub took_shapes : Side → Option Partner → ℕ → Bool → ℕ → ℕ → List Shape
 took_shapes side None number is_dropped x y = shape.Line style.Loose (inward side x) y x y ∷ []
 took_shapes side (Some from) number is_dropped x y =

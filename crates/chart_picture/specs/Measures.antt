@@ -1,4 +1,4 @@
--- Where the columns and the rows of a picture stand (own).
+-- Where the columns and the rows of a picture are (own).
 use Rattle.std.specs.Prelude.{ℕ, ◌+◌, ◌*◌}
 use Rattle.chart_picture.specs.declared.measures.TheConstants.{FIRST, STEP, RIGHT, TOP, ROW}
 

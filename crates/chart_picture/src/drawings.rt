@@ -124,7 +124,7 @@ fn label_style(mark: &Mark, side: Side) -> Style
     }
 }
 
-/// Where a label stands: in the bar, or beside the lifeline.
+/// Where a label is: in the bar, or beside the lifeline.
 fn label_x(mark: &Mark, side: Side, x: u64) -> u64
     requires left { 330 ≤ x }
     requires right { x < 2 ^ 42 }
@@ -137,7 +137,7 @@ fn label_x(mark: &Mark, side: Side, x: u64) -> u64
     }
 }
 
-/// Appends a label, or its front where it is long.
+/// Appends a label, or its prefix where it is long.
 fn push_label(
     alloc: Global,
     shapes: &mut Vec<Shape>,
@@ -159,7 +159,7 @@ fn push_label(
     Ok(())
 }
 
-/// A label, or its front with three dots where it is long.
+/// A label, or its prefix with three dots where it is long.
 fn clipped(alloc: Global, label: &[u8]) -> Result<Data, NoMemory>
     ensures { IfOk result (λ text. text ≡ clipped label.now) }
 {

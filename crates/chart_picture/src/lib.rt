@@ -1,4 +1,4 @@
-// The picture of a chart: where each of its parts stands.
+// The picture of a chart: where each of its parts is.
 #![tactic(auto)]
 
 mod drawings;

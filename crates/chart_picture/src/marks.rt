@@ -114,7 +114,7 @@ fn push_sent(
 }
 
 /// Appends where a message was taken: the arrow from its send with its number, or a line that begins
-/// on the way where its send isn't told.
+/// on the way where its send isn't known.
 fn push_took(
     alloc: Global,
     shapes: &mut Vec<Shape>,

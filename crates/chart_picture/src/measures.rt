@@ -1,20 +1,20 @@
 ghost use Rattle.std.specs.Prelude.{◌≡◌, ◌≤◌, ◌<◌, ◌^◌};
 ghost use Rattle.chart_picture.specs.Measures.{x_of, y_of};
 
-/// Where the first lifeline stands, from the left.
+/// Where the first lifeline is, from the left.
 pub(crate) const FIRST: u64 = 380;
 /// From a lifeline to the next.
 pub(crate) const STEP: u64 = 190;
-/// What stands right of the last lifeline.
+/// What is right of the last lifeline.
 pub(crate) const RIGHT: u64 = 140;
-/// Where the first row stands, from the top.
+/// Where the first row is, from the top.
 pub(crate) const TOP: u64 = 84;
 /// From a row to the next.
 pub(crate) const ROW: u64 = 24;
 /// The most bytes of a label that are drawn.
 pub const LABEL_MOST: usize = 40;
 
-/// Where a lifeline stands.
+/// Where a lifeline is.
 pub(crate) fn x_of(column: u32) -> u64
     ensures value { result ≡ x_of column }
     ensures left { 330 ≤ result }
@@ -23,7 +23,7 @@ pub(crate) fn x_of(column: u32) -> u64
     FIRST + STEP * u64::from(column)
 }
 
-/// Where a row stands.
+/// Where a row is.
 pub(crate) fn y_of(row: u32) -> u64
     ensures value { result ≡ y_of row }
     ensures top { 84 ≤ result }

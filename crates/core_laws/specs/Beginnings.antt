@@ -25,7 +25,7 @@ pub record BeginsLife (inc : ℕ) (core : CoreState) : Type 0 where
   pub life : core.life.incarnation ≡ inc
   pub link : IfSome core.bench (BeginsEmpty inc)
 
--- there is a link exactly where there was one, and it is live and empty in the incarnation behind that one's
+-- there is a link exactly where there was one, and it is live and empty in the incarnation after that one's
 abbrev pub ReopensNext : Option BenchState → Option BenchState → Type 0
 ReopensNext None after = after ≡ None
 ReopensNext (Some before) after = IsSomeAnd after (BeginsEmpty ((link_in before).era.inc + 1))

@@ -7,7 +7,7 @@ use Rattle.link_bench.specs.Benches.{BenchState, link_in}
 use Rattle.link_bench.specs.BenchCrashes.{after_close}
 use Rattle.link_bench.specs.BenchEnds.{is_remote, without_one, without_others}
 
--- on which end a number of a core's link is in use behind a crash, by where it was: a host caller stays, and of the remote callers 1 alone
+-- on which end a number of a core's link is in use after a crash, by where it was: a host caller stays, and of the remote callers 1 alone
 abbrev pub end_after_crash : ℕ → Option End → Option End
 end_after_crash caller found = if is_remote found then (if caller == 1 then Some side.Remote else None) else found
 

@@ -16,7 +16,7 @@ pub record MayDrive (core : CoreState) : Type 0 where
   pub kept : IsKeptCore core
   pub ready : IsReadyCore core
 
--- beside the step of an actor stands what goes with a step of a caller on the link, for the call that the actor begins if it is in none, or what goes with a record, by what the record was and the core that it left
+-- beside the step of an actor is what goes with a step of a caller on the link, for the call that the actor begins if it is in none, or what goes with a record, by what the record was and the core that it left
 abbrev pub beside_actor : {X : Type 0} → (Option BenchState → ℕ → Wish → X) → (DriveOutcome → CoreState → X) → Actor → CoreState → X
 beside_actor on_link on_record actor.Host core = on_link core.bench 0 (first_or_take core.actors.host_calls)
 beside_actor on_link on_record actor.Worker core =

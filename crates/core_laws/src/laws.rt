@@ -142,7 +142,7 @@ pub fn reopens_next()
 {}
 
 /// Where a life of a core begins, by a boot, an attach or a recovery, the life is in its next incarnation, and so is the link, live and empty on both
-/// lanes: what is handed over in a life was accepted in it. A recovery leaves a link exactly where there was one, in the incarnation behind that one's.
+/// lanes: what is handed over in a life was accepted in it. A recovery leaves a link exactly where there was one, in the incarnation after that one's.
 pub fn lives_begin_empty()
     ensures boot { (core : CoreState) (name : List ℕ) (found : ImageAnswer) (did : Start) → begins_life did ≡ true → (boot_of core name found).answer ≡ Ok did
         → BeginsLife (core.life.incarnation + 1) (boot_of core name found).core }

@@ -1,4 +1,4 @@
--- Of whom a line of a transcript tells, and what it says that a chart shows by more than its text (own).
+-- Whom a line of a transcript is about, and what of it a chart shows by more than its text (own).
 use Rattle.std.specs.Prelude.{true, false, List, ◌∷◌, Option, Some, None, option_map}
 use Rattle.word_kinds.specs.Texts.{Word, Name, Number}
 use Rattle.journal.specs.Lines.{words_of}
@@ -15,7 +15,7 @@ teller_in (Name name ∷ Number caller ∷ more) = Some (record { name = name; c
 teller_in (Name name ∷ more) = Some (record { name = name; caller = None })
 teller_in words = None
 
--- of whom an event tells; the words behind the name in a line about a resource table begin with none that is a number
+-- whom an event is about; the words after the name in a line about a resource table begin with none that is a number
 abbrev pub teller_of : Event → Option Teller
 teller_of (event.Table x entry) = Some (record { name = x; caller = None })
 teller_of e = teller_in (words_of e)

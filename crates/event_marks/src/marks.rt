@@ -4,7 +4,7 @@ ghost use Rattle.event_marks.specs.Marks.{teller_of, deed_of, said_by};
 use journal::Event;
 use rp_base::{End, Name};
 
-/// Of which link or core a line tells, and of which of its callers, if of one.
+/// Which link or core a line is about, and which of its callers, if one.
 #[derive(Clone, Copy)]
 pub struct Teller {
     pub name: Name,
@@ -37,7 +37,7 @@ pub struct Said {
     pub deed: Deed,
 }
 
-/// What an event says of a link or a core, if it tells of one.
+/// What an event says of a link or a core, if it is about one.
 pub fn said_by(event: &Event) -> Option<Said>
     ensures { result ≡ said_by event.now }
 {
@@ -48,7 +48,7 @@ pub fn said_by(event: &Event) -> Option<Said>
     })
 }
 
-/// Of whom an event tells.
+/// Whom an event is about.
 fn teller_of(event: &Event) -> Option<Teller>
     ensures { result ≡ teller_of event.now }
 {

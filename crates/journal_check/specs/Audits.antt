@@ -14,7 +14,7 @@ rule_at count readings index = option_and_then (λ now. least_rule (index + 1 ==
 abbrev pub KeepsRules : ℕ → List Reading → ℕ → Type 0
 KeepsRules count readings most = (index : ℕ) → index < most → rule_at count readings index ≡ None
 
--- a text is sound with the number of its lines where none breaks a rule; else it is broken at the first that does, told from 1, by the
+-- a text is sound with the number of its lines where none breaks a rule; else it is broken at the first that does, counted from 1, by the
 -- least rule that it breaks
 abbrev pub IsVerdict : ℕ → List Reading → Audit → Type 0
 IsVerdict count readings (audit.Sound lines) = (lines ≡ count) × KeepsRules count readings lines

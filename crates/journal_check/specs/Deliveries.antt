@@ -12,7 +12,7 @@ use Rattle.journal_check.specs.Audits.{KeepsRules}
 use Rattle.journal_check.specs.Entries.{Entry, lines_at}
 use Rattle.journal_check.specs.Marks.{past_of}
 
--- a message that a caller has a sent line for, of those that stood at a place
+-- a message that a caller has a sent line for, of those that were at a place
 abbrev pub is_sent_by : ℕ → ℕ → What → Bool
 is_sent_by sender k (what.Sent c number) = c == sender && number == k
 is_sent_by sender k other = false
@@ -37,7 +37,7 @@ handed_to endpoint here = filter_map (λ entry. handed_by endpoint entry.line) h
 abbrev pub addressed_to : ℕ → List Entry → List ℕ
 addressed_to address here = filter_map (λ entry. addressed_by address entry.line) here
 
--- each number is greater than all that stand behind it: in the order of the text they ascend, each once
+-- each number is greater than all that come after it: in the order of the text they ascend, each once
 abbrev pub Descends : List ℕ → Type 0
 Descends [] = Unit {0}
 Descends (k ∷ before) = AllByRecursion (λ number. number < k) before × Descends before

@@ -1,4 +1,4 @@
--- Where a line of a link or a core stands: on which end and in which incarnation (own). `past` is what the earlier lines of the same name
+-- Where a line of a link or a core is: on which end and in which incarnation (own). `past` is what the earlier lines of the same name
 -- say, the newest first.
 use Rattle.std.specs.Prelude.{ℕ, Bool, true, false, ◌==◌, ◌&&◌, if◌then◌else◌, List, [], ◌∷◌, Option, Some, None, filter, option_and_then}
 use Rattle.std.specs.List.{list_any}
@@ -8,7 +8,7 @@ use Rattle.rp_base.specs.declared.kinds.End.TheVariants as side
 use Rattle.journal_check.specs.declared.marks.What.{What}
 use Rattle.journal_check.specs.declared.marks.What.TheVariants as what
 
--- what the last line tells of those that tell something
+-- what the last line says of those that say something
 abbrev pub last_of : {A X : Type 0} → (A → Option X) → List A → Option X
 last_of tells [] = None
 last_of tells (line ∷ past) = option_or (tells line) (last_of tells past)
@@ -71,7 +71,7 @@ caller_of other = None
 abbrev pub place_of : What → List What → Option Place
 place_of line past = option_and_then (λ c. place_from (incarnation past) (end_of c past)) (caller_of line)
 
--- a line, where it stands, and whether its incarnation was closed before
+-- a line, where it is, and whether its incarnation was closed before
 pub record Entry : Type 0 where
   pub line : What
   pub place : Option Place

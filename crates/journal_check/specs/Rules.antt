@@ -13,7 +13,7 @@ use Rattle.journal_check.specs.declared.readings.Reading.TheVariants as reading
 use Rattle.journal_check.specs.Marks.{mark_in, past_of}
 use Rattle.journal_check.specs.Entries.{Place, Entry, lines_at, place_of, caller_of, incarnation, has_closed, is_closed, last_of}
 
--- Of the rules 2 to 6 and 10, `here` has the lines that stood before at the same place, the newest first.
+-- Of the rules 2 to 6 and 10, `here` has the lines that were before at the same place, the newest first.
 
 -- 2: a line is sent K, and an earlier sent line of its lane and incarnation has K or more
 abbrev pub is_sent_from : ℕ → What → Bool
@@ -33,7 +33,7 @@ abbrev pub takes_no_higher : What → List Entry → Bool
 takes_no_higher (what.Took c k fate) here = list_any (λ entry. is_took_from k entry.line) here
 takes_no_higher other here = false
 
--- 4: a sent or took line stands after the close of its incarnation, and so does an earlier line of the same kind and lane
+-- 4: a sent or took line comes after the close of its incarnation, and so does an earlier line of the same kind and lane
 abbrev pub is_sent : What → Bool
 is_sent (what.Sent c k) = true
 is_sent other = false

@@ -23,7 +23,7 @@ abbrev pub is_reached : ℕ → Option ℕ → Bool
 is_reached k None = false
 is_reached k (Some most) = nat_le k most
 
--- what stood at a place, as it is kept
+-- what was at a place, as it is kept
 pub record IsSide (here : List Entry) (kept : Side) : Type 0 where
   pub sent : (k : ℕ) → list_any (λ entry. is_sent_from k entry.line) here ≡ is_reached k kept.sent
   pub took : (k : ℕ) → list_any (λ entry. is_took_from k entry.line) here ≡ is_reached k kept.took
@@ -44,7 +44,7 @@ inc_of past = unwrap_or (incarnation past) 0
 abbrev pub place_in : ℕ → End → Place
 place_in inc end = record { inc = inc; end = end }
 
--- nothing was told of an incarnation yet
+-- nothing was said of an incarnation yet
 pub record IsUnused (inc : ℕ) (past : List What) : Type 0 where
   pub closed : has_closed inc past ≡ false
   pub lines : (end : End) → lines_at (place_in inc end) past ≡ []

@@ -10,7 +10,7 @@ use std::alloc::Global;
 /// Whether the lines of a transcript keep the rules: how many lines there are, or the first line
 /// that breaks a rule.
 ///
-/// Errors: only for want of memory.
+/// Errors: only if memory runs out.
 pub fn audit(alloc: Global, bytes: &[u8]) -> Result<Audit, NoMemory>
     ensures exact { IfOk result (λ answer. IsAudit (lines_of bytes.now) answer) }
 {
@@ -28,7 +28,7 @@ pub fn audit(alloc: Global, bytes: &[u8]) -> Result<Audit, NoMemory>
     Ok(Audit::Sound(count))
 }
 
-/// The first line of a text that isn't empty, and what stands behind it.
+/// The first line of a text that isn't empty, and what comes after it.
 fn cut_line(text: &[u8]) -> (&[u8], &[u8])
     requires { 0 < length text.now }
     ensures lines { lines_of text.now ≡ result.0.now ∷ lines_of result.1.now }

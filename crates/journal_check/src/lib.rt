@@ -1,4 +1,4 @@
-// The checker of transcripts: which lines break a rule of what a run tells.
+// The checker of transcripts: which lines break a rule of what a run writes.
 #![tactic(auto)]
 
 mod answers;

@@ -21,9 +21,9 @@ pub(crate) struct Record {
     is_closed: bool,
     /// The end of each caller that was made.
     callers: IndexMap<u64, End>,
-    /// What stood on the host end in this incarnation.
+    /// What was on the host end in this incarnation.
     host: Side,
-    /// What stood on the remote end in this incarnation.
+    /// What was on the remote end in this incarnation.
     remote: Side,
 }
 

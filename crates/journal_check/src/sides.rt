@@ -16,16 +16,16 @@ pub(crate) struct Binding {
     pub(crate) generation: u64,
 }
 
-/// What stood on an end of a link in an incarnation.
+/// What was on an end of a link in an incarnation.
 #[derive(Drop)]
 pub(crate) struct Side {
     /// The greatest number of a message that was sent.
     sent: Option<u64>,
     /// The greatest number of a message that was taken.
     took: Option<u64>,
-    /// Whether a sent line stood after the close.
+    /// Whether a sent line was after the close.
     has_late_sent: bool,
-    /// Whether a took line stood after the close.
+    /// Whether a took line was after the close.
     has_late_took: bool,
     /// The greatest generation that a line named.
     generation: Option<u64>,

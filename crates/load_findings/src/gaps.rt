@@ -24,7 +24,7 @@ pub(crate) fn ranges_meet(start: u32, len: u32, other: u32, other_len: u32) -> b
 }
 
 /// The least aligned device address of a pool at which `len` bytes meet none of some blocks, which
-/// stand in the order of their addresses and do not meet each other. It takes time by the number of
+/// are in the order of their addresses and do not meet each other. It takes time by the number of
 /// blocks in the pool.
 pub(crate) fn least_place(pool: &Region, blocks: &[Block], len: u32, align: u32) -> Option<Da>
     requires range { IsRange pool.now.da pool.now.pa pool.now.len }
@@ -52,7 +52,7 @@ pub(crate) fn least_place(pool: &Region, blocks: &[Block], len: u32, align: u32)
 }
 
 /// The least aligned device address from `from` on at which `len` bytes meet none of some blocks,
-/// which stand in the order of their addresses; or an aligned one at which they pass `end`, and no
+/// which are in the order of their addresses; or an aligned one at which they pass `end`, and no
 /// lesser one will do.
 fn first_gap(blocks: &[Block], from: Da, len: u64, align: u64, end: u64) -> u64
     requires some { 1 ≤ len }

@@ -65,7 +65,7 @@ load_numbered image regions =
     let placed = placed_fault image regions blocks in
     or_numbered (option_map fault.Elf (image_fault image)) (option_or table (option_or placed None)) (elf_numbered (image_fault image))
     (or_numbered table (option_or placed None) (table_numbered (section_fault image (table_section image)))
-    (or_numbered placed None (placed_numbered image regions blocks (placement_refuses IsPlaced regions (entries_in (table_of image)) (λ k less. record { outside = refl; overlap = refl; room = refl; window = refl; past = refl; }))) tt))
+    (or_numbered placed None (placed_numbered image regions blocks (placement_refuses IsPlaced regions (entries_in (table_of image)) (λ k less. record { outside = refl; overlap = refl; room = refl; window = refl; past = refl }))) tt))
 
 -- ---- regions
 

@@ -1,4 +1,4 @@
--- What stands at a device address once an image was loaded (own).
+-- What is at a device address once an image was loaded (own).
 use Rattle.std.specs.Prelude.{ℕ, ◌+◌, ◌-◌, nat_le, nat_lt, Bool, ◌&&◌, List, [], ◌∷◌, length, slice_index, Option, Some, None, is_some, unwrap_or, if◌then◌else◌}
 use Rattle.std.specs.Option.{option_or}
 use Rattle.elf_image.specs.Segments.{SegmentAt, segments_of}
@@ -12,7 +12,7 @@ use Rattle.fw_load.specs.Tables.{patched_in, table_of, table_section}
 abbrev pub covers : ℕ → ℕ → ℕ → Bool
 covers from len da = nat_le from da && nat_lt da (from + len)
 
--- the byte of a segment at a device address that it covers: that of the image, or a zero behind those (TIS ELF 1.2, "Program Header", p_filesz, p_memsz)
+-- the byte of a segment at a device address that it covers: that of the image, or a zero after those (TIS ELF 1.2, "Program Header", p_filesz, p_memsz)
 abbrev pub segment_byte : SegmentAt → ℕ → Option ℕ
 segment_byte segment da = if covers segment.da segment.memory_len da then Some (slice_index (segment_bytes segment) (da - segment.da)) else None
 

@@ -33,7 +33,7 @@ pub fn refused_by_number()
     ensures region { (regions : List Region) (region : Region) → IfSome (region_fault regions region) (λ why. is_some (region_fault_number why) ≡ true) }
 {}
 
-/// At each device address that a block of memory holds stands, behind a load, the byte of the patched table where it was copied, else that of
+/// At each device address that a block of memory holds is, after a load, the byte of the patched table where it was copied, else that of
 /// the last segment that covers it, else zero.
 pub fn byte_by_byte()
     ensures { (image : List ℕ) (regions : List Region) (placed : List Block) (da place : ℕ) → SoundRegions regions → Loads image regions
@@ -51,7 +51,7 @@ pub fn patched_table()
         → entries_of (patched_in (table_of image) placed) ≡ patched_entries (fixes_of (entries_of table) placed) (entries_of table) }
 {}
 
-/// The rings that a load gives, which are those of its patched table, and their buffers stand in blocks that were placed for them, at the
+/// The rings that a load gives, which are those of its patched table, and their buffers are in blocks that were placed for them, at the
 /// addresses that they name.
 pub fn rings_of_table()
     ensures { (image : List ℕ) (regions : List Region) (loaded : Loaded) → SoundRegions regions → Loads image regions → IsLoaded image regions loaded

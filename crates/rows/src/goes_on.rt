@@ -37,7 +37,7 @@ impl fmt::Display for Handed {
 /// Has two threads go on over the link of a bench, each with a new caller: what the host's was handed.
 /// That is nothing where the numbers of callers are all in use.
 ///
-/// Errors: only for want of memory.
+/// Errors: only if memory runs out.
 pub fn go_on<R: Threads + Sync>(
     rt: &R,
     alloc: Global,

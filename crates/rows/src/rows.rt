@@ -6,7 +6,7 @@ use std::io::{self, ErrorKind};
 /// What a row gives the program.
 #[derive(Drop)]
 pub struct Row {
-    /// The words behind the program's name, one a line.
+    /// The words after the program's name, one a line.
     pub words: String,
     pub script: Vec<u8>,
     pub images: Vec<(Name, Vec<u8>)>,
@@ -81,7 +81,7 @@ pub(crate) fn runs_of(rt: &HostRuntime, name: &str) -> io::Result<Vec<(String, R
     Ok(runs)
 }
 
-/// The bytes with zeros behind them, so many in all where there are fewer.
+/// The bytes with zeros after them, so many in all where there are fewer.
 fn longer(mut bytes: Vec<u8>, length: usize) -> io::Result<Vec<u8>> {
     bytes.resize(bytes.len().max(length), 0)?;
     Ok(bytes)
@@ -125,7 +125,7 @@ fn images_of(rt: &HostRuntime, row: &str, length: usize) -> io::Result<Vec<(Name
     Ok(images)
 }
 
-/// The names of what stands in a folder, in the order of their bytes.
+/// The names of what is in a folder, in the order of their bytes.
 pub(crate) fn names_in(rt: &HostRuntime, folder: &str) -> io::Result<Vec<String>> {
     let mut names = Vec::new(rt.alloc());
     for entry in fs::read_dir(rt, folder)? {

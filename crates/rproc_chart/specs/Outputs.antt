@@ -57,7 +57,7 @@ pub data IsOutput (lines : LineRange) (bytes : List ℕ) : List ℕ → Status �
   long : length bytes ≤ TRANSCRIPT_MOST → AreTooMany (lines_of bytes) → IsOutput lines bytes (codes "* refused 0 lines" ++ 10 ∷ []) ended.Refused
   large : TRANSCRIPT_MOST < length bytes → IsOutput lines bytes (codes "* refused 0 size" ++ 10 ∷ []) ended.Refused
 
--- of what a source had left: its bytes, or the first of them where there are too many; where the source doesn't tell, some bytes
+-- of what a source had left: its bytes, or the first of them where there are too many; where the source doesn't say, some bytes
 abbrev pub OfSource : Option (List ℕ) → (List ℕ → Type 0) → Type 0
 OfSource None P = (bytes : List ℕ) × P bytes
 OfSource (Some left) P = P (take (TRANSCRIPT_MOST + 1) left)

@@ -17,7 +17,7 @@ pub record AreReached (objects : ObjectsState) : Type 0 where
   pub links : All (λ (named : NamedLink). IsReachedBench named.bench) objects.links
   pub cores : All (λ (named : NamedCoreState). IsReachedCore named.core) objects.cores
 
--- a link, with a way on which it came from the start of its incarnation, and what it handed over on that way: to each end each number once and in order, and to an endpoint from each sender a front of what is due to it, and all of it that was handed over where the endpoint is bound
+-- a link, with a way on which it came from the start of its incarnation, and what it handed over on that way: to each end each number once and in order, and to an endpoint from each sender a prefix of what is due to it, and all of it that was handed over where the endpoint is bound
 pub record HandsInOrder (link : LinkState EndState) : Type 0 where
   pub reached : IsReached link
   pub once : (end : End) → messages_of (handings_to (history_of link reached) end) ≡ with_numbers 0 (handed_front (lane_to link end).lane)

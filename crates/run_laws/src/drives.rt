@@ -8,7 +8,7 @@ ghost use Rattle.run_laws.specs.Drives.{EndsWith, drive_length_within, last_even
 ghost use Rattle.drive_laws.specs.Steps.{after_drive, after_steps, rests, drive_length};
 
 /// A `drive` of a script is so many steps of the actors, and what it says at last: it leaves the core that these steps leave, each counts one and
-/// tells what it tells, and behind them the drive tells why it ended, or stops the run. It makes fewer than all its steps only where the core rests
+/// tells what it tells, and after them the drive tells why it ended, or stops the run. It makes fewer than all its steps only where the core rests
 /// or the run has no step left. Where the run has as many left, it makes the steps of a drive, and doesn't stop the run; and the last that it tells
 /// is why it ended: the core has crashed, both actors have nothing to do, or else all its steps were made.
 pub fn script_drive()

@@ -44,7 +44,7 @@ pub fn faults_alone()
         → (run_of told commands).failed ≡ false }
 {}
 
-/// After each list of commands, and so after each front of a script, each link comes by moves from the start of its incarnation, and so
+/// After each list of commands, and so after each prefix of a script, each link comes by moves from the start of its incarnation, and so
 /// does the link of each core, whatever the store tells.
 pub fn links_are_reached()
     ensures command { (answer : ImageAnswer) (run : RunState) (command : Command) → IsRunnable command → AreReached run.objects → AreKept run.objects
@@ -52,7 +52,7 @@ pub fn links_are_reached()
     ensures run { (told : StoreAnswers) (commands : List Command) → AreRunnable commands → AreReached (run_of told commands).last.objects }
 {}
 
-/// So each link of a run, and the link of each core, is sound after each front of a script.
+/// So each link of a run, and the link of each core, is sound after each prefix of a script.
 pub fn links_sound()
     ensures links { (told : StoreAnswers) (commands : List Command) (named : NamedLink) → AreRunnable commands
         → Contains (run_of told commands).last.objects.links named → SoundLink (link_in named.bench) }
@@ -61,7 +61,7 @@ pub fn links_sound()
 {}
 
 /// Each link of a run, and the link of each core, hands over each message at most once and in order, and what each endpoint got from a
-/// sender is a front of what is due to it.
+/// sender is a prefix of what is due to it.
 pub fn links_in_order()
     ensures links { (told : StoreAnswers) (commands : List Command) (named : NamedLink) → AreRunnable commands
         → Contains (run_of told commands).last.objects.links named → HandsInOrder (link_in named.bench) }
@@ -110,7 +110,7 @@ pub fn links_reopen_next()
 
 /// Where a boot, which may be an attach, or a recovery of the core of a name in a run begins a life, it leaves at its place a core in the next
 /// incarnation of its life, whose link, if it has one, is in that incarnation too, live and empty on both lanes. A recovery leaves a link exactly where
-/// there was one, in the incarnation behind that one's.
+/// there was one, in the incarnation after that one's.
 pub fn lives_begin_next()
     ensures boot { (answer : ImageAnswer) (run : RunState) (name : List ℕ) (place : ℕ) (on : NamedCoreState) → IsCoreAt run name place on → (image : List ℕ) (did : Start)
         → begins_life did ≡ true → (boot_of on.core image (found_image run.objects.images answer image)).answer ≡ Ok did
@@ -124,7 +124,7 @@ pub fn lives_begin_next()
 {}
 
 /// From a close of a link on, no command of a script but a reopening of that link hands anything over on it or opens it: the link at a place of a run
-/// that is closed stands closed at that place behind the command, with nothing more handed over on either lane.
+/// that is closed stays closed at that place after the command, with nothing more handed over on either lane.
 pub fn closed_hands_none()
     ensures { (answer : ImageAnswer) (run : RunState) (asked : Command) (place : ℕ) (on : NamedLink) → IsRunnable asked
         → slice_get run.objects.links place ≡ Some on → IsReachedBench on.bench → (link_in on.bench).era.is_live ≡ false → ReopensOther run place asked
@@ -132,7 +132,7 @@ pub fn closed_hands_none()
 {}
 
 /// And from a crash of a core on, no command of a script but a recovery of that core hands anything over on its link or opens it: the core at a place of
-/// a run stays crashed behind the command, and its link closed, as it is while a core isn't up, with nothing more handed over on either lane.
+/// a run stays crashed after the command, and its link closed, as it is while a core isn't up, with nothing more handed over on either lane.
 pub fn crashed_hands_none()
     ensures { (answer : ImageAnswer) (run : RunState) (asked : Command) (place : ℕ) (on : NamedCoreState) → IsRunnable asked
         → slice_get run.objects.cores place ≡ Some on → IsReachedCore on.core → on.core.life.state ≡ state.Crashed

@@ -1,4 +1,4 @@
--- How a text stands in an XML document (XML 1.0: `&` and `<` don't stand for themselves in character data, nor does `"` in a quoted value).
+-- How a text is in an XML document (XML 1.0: `&` and `<` don't stand for themselves in character data, nor does `"` in a quoted value).
 use Rattle.std.specs.Prelude.{◌≡◌, ℕ, Bool, true, ◌==◌, ◌||◌, ◌&&◌, not, nat_le, if◌then◌else◌, List, [], ◌∷◌, ◌++◌, codes}
 use Rattle.std.specs.List.{flat_map}
 
@@ -17,7 +17,7 @@ entity_of byte =
 abbrev pub escaped_byte : ℕ → List ℕ
 escaped_byte byte = if is_plain byte then byte ∷ [] else entity_of byte
 
--- a text as it stands in a document
+-- a text as it is in a document
 abbrev pub escaped : List ℕ → List ℕ
 escaped text = flat_map escaped_byte text
 
@@ -29,7 +29,7 @@ pub data Entity : List ℕ → Type 0 where
   quote : Entity (codes "&quot;")
   unprintable : Entity (codes "&#65533;")
 
--- what may stand between the markup of a document, and in a quoted value: plain bytes and entities
+-- what may be between the markup of a document, and in a quoted value: plain bytes and entities
 pub data IsContent : List ℕ → Type 0 where
   empty : IsContent []
   plain : (byte : ℕ) (more : List ℕ) → is_plain byte ≡ true → IsContent more → IsContent (byte ∷ more)

@@ -32,7 +32,7 @@ class_text style.Crash = codes "crash"
 class_text style.BarText = codes "bar-text"
 class_text style.CrashText = codes "crash-text"
 
--- an attribute behind a space
+-- an attribute after a space
 unfoldable pub attribute : List ℕ → ℕ → List ℕ
 attribute name value = codes " " ++ name ++ codes "=\"" ++ decimal value ++ codes "\""
 
@@ -44,7 +44,7 @@ tag name style attributes = codes "<" ++ name ++ codes " class=\"" ++ class_text
 abbrev pub places : List (List ℕ × ℕ) → List ℕ
 places attributes = flat_map (λ a. attribute a.0 a.1) attributes
 
--- the element of a shape: what a text says stands in it escaped
+-- the element of a shape: what a text says is in it escaped
 unfoldable pub shape_text : Shape → List ℕ
 shape_text (shape.Line style x1 y1 x2 y2) =
     tag (codes "line") style (places ((codes "x1", x1) ∷ (codes "y1", y1) ∷ (codes "x2", x2) ∷ (codes "y2", y2) ∷ [])) ++ codes "/>\n"

@@ -11,7 +11,7 @@ pub enum Style {
     OwnHead,
     /// The name in a head.
     Name,
-    /// What stands below the name in a head.
+    /// What is below the name in a head.
     Role,
     /// The number of a line.
     Count,
@@ -21,13 +21,13 @@ pub enum Style {
     LeftLabel,
     /// What a line says, right of its lifeline.
     RightLabel,
-    /// Where a line stands on its lifeline.
+    /// Where a line is on its lifeline.
     Dot,
     /// A message from its send to its take.
     Arrow,
     /// A message from its send to where it was dropped.
     Dropped,
-    /// A message of which only the one end is told.
+    /// A message of which only the one end is known.
     Loose,
     /// A stroke of the cross of a dropped message.
     Cross,
@@ -39,9 +39,9 @@ pub enum Style {
     Closing,
     /// A core crashes.
     Crash,
-    /// What stands in the bar of an opening or a closing.
+    /// What is in the bar of an opening or a closing.
     BarText,
-    /// What stands in the bar of a crash.
+    /// What is in the bar of a crash.
     CrashText,
 }
 

@@ -12,7 +12,7 @@ use std::alloc::Global;
 pub(crate) const OPENING: &str =
     "<?xml version=\"1.0\" encoding=\"UTF-8\"?>\n<svg xmlns=\"http://www.w3.org/2000/svg\"";
 
-/// What stands behind the size: the style sheet, the heads of arrows and the page.
+/// What comes after the size: the style sheet, the heads of arrows and the page.
 pub(crate) const STYLES: &str = ">
 <style>
 text { font: 12px 'DejaVu Sans Mono', monospace; fill: black; paint-order: stroke; stroke: white; stroke-width: 3px; stroke-linejoin: round }
@@ -131,7 +131,7 @@ fn push_tag(
     push_attributes(out, places)
 }
 
-/// Appends attributes, each behind a space.
+/// Appends attributes, each after a space.
 fn push_attributes(out: &mut Vec<u8>, places: &[(&str, u64)]) -> Result<(), NoMemory>
     ensures { OnOk result (out.new.items ≡ out.old.items ++ flat_map (λ place. attribute place.0.now place.1) places.now) }
 {
@@ -141,7 +141,7 @@ fn push_attributes(out: &mut Vec<u8>, places: &[(&str, u64)]) -> Result<(), NoMe
     Ok(())
 }
 
-/// Appends an attribute behind a space.
+/// Appends an attribute after a space.
 #[tactic(auto, unfolding(crate::specs::Printing::attribute))]
 fn push_attribute(out: &mut Vec<u8>, name: &str, value: u64) -> Result<(), NoMemory>
     ensures { OnOk result (out.new.items ≡ out.old.items ++ attribute name.now value) }
@@ -163,7 +163,7 @@ fn push_number(out: &mut Vec<u8>, number: u64) -> Result<(), NoMemory>
     Ok(())
 }
 
-/// A number in decimal behind some words.
+/// A number in decimal after some words.
 ///
 /// # Errors
 ///

@@ -59,7 +59,7 @@ pub record IsTakeOfCore (run : RunState) (done : Line (List RecipeLine) (List �
 abbrev pub AreTakesOfRun : RunState → Line (List RecipeLine) (List ℕ) → List Event → Type 0
 AreTakesOfRun run done events = All (λ (event : Event). is_take_line event ≡ true → IsTakeOfLink run done event ⊎ IsTakeOfCore run done event) events
 
--- an event is the line of a take in the run of these commands: behind the first of them, one that is next has told a handing, on a link of the run then or on that of a core, of which it is the line
+-- an event is the line of a take in the run of these commands: after the first of them, one that is next has told a handing, on a link of the run then or on that of a core, of which it is the line
 pub record IsTakeInRun (told : StoreAnswers) (commands : List Command) (event : Event) : Type 0 where
   pub done : List Command
   pub next : Command

@@ -53,12 +53,12 @@ abbrev pub unless_some : {X A : Type 0} → Option X → A → A → A
 unless_some None refused done = done
 unless_some (Some why) refused done = refused
 
--- behind a boot that left this link: a life that begins has a new one
+-- after a boot that left this link: a life that begins has a new one
 abbrev pub started_account : Option BenchState → Result Start StartFault → Option Account → Option Account
 started_account left (Ok came) account = if begins_life came then begun_account left else account
 started_account left (Err why) account = account
 
--- behind a shutdown or a detaching, with which the link may have gone
+-- after a shutdown or a detaching, with which the link may have gone
 abbrev pub left_account : Option BenchState → Option Account → Option Account
 left_account None account = None
 left_account (Some left) account = account
@@ -68,18 +68,18 @@ abbrev pub ready_if : Option BenchState → Deeds
 ready_if None = no_deeds
 ready_if (Some bench) = ready_deeds bench
 
--- behind a recovery: a refusal of its life or of its image leaves the link as it is; caller 0 is made anew before the link is reopened, which may be refused
+-- after a recovery: a refusal of its life or of its image leaves the link as it is; caller 0 is made anew before the link is reopened, which may be refused
 abbrev pub recovery_account : End → CoreState → ImageAnswer → Option Account → Option Account
 recovery_account end on found account =
     unless_some (recovery_fault on.life) account (unless_some (reload_fault on found) account
     (unless_some (reopen_fault on) (deed_account end on.bench (ready_if on.bench) account) (begun_account (after_recovery on (load_in on found)).bench)))
 
--- behind the first steps of the actors
+-- after the first steps of the actors
 unfoldable pub steps_account : End → ℕ → CoreState → Option Account → Option Account
 steps_account end zero on account = account
 steps_account end (suc more) on account = steps_account end more (drive_step on).core (deed_account end on.bench (drive_deeds on) account)
 
--- behind a drive of so many steps, of which fewer are made where the core rests or the run has no step left
+-- after a drive of so many steps, of which fewer are made where the core rests or the run has no step left
 abbrev pub drive_account : End → ℕ → CoreState → ℕ → Option Account → Option Account
 drive_account end count on steps account = steps_account end (drive_length_within count on steps) on account
 
@@ -92,7 +92,7 @@ steps_takes (suc more) on end = (drive_deeds on).takes end ++ steps_takes more (
 abbrev pub drive_takes : ℕ → CoreState → ℕ → End → List Handing
 drive_takes count on steps = steps_takes (drive_length_within count on steps) on
 
--- behind an act on a core
+-- after an act on a core
 abbrev pub life_account : End → List ImageState → ImageAnswer → NamedCoreState → ℕ → CoreAct → Option Account → Option Account
 life_account end images answer on steps (core.Start (starts.Boot image)) account =
     let booted = boot_of on.core image (found_image images answer image) in started_account booted.core.bench booted.answer account
@@ -112,7 +112,7 @@ abbrev pub core_act_deeds : CoreState → Option BenchState → ℕ → LinkAct 
 core_act_deeds on None steps asked = no_deeds
 core_act_deeds on (Some bench) steps asked = act_deeds actors_after_end OWN_CALLERS bench on.actors steps asked
 
--- behind what is done under the name of a core
+-- after what is done under the name of a core
 abbrev pub core_account_after : End → List ImageState → ImageAnswer → NamedCoreState → ℕ → NamedAct (List ℕ) → Option Account → Option Account
 core_account_after end images answer on steps (under.Make made) account = account
 core_account_after end images answer on steps (under.Link asked) account = deed_account end on.core.bench (core_act_deeds on.core on.core.bench steps asked) account
@@ -131,12 +131,12 @@ core_act_at run place (line.Quiet set) = None
 core_act_at run place (line.Dump name image) = None
 core_act_at run place (line.On name wanted) = if is_unlinked run name && is_place (core_place run.objects.cores name) place then Some wanted else None
 
--- the account of the link of a core behind what is done on it, if anything is
+-- the account of the link of a core after what is done on it, if anything is
 abbrev pub core_account_behind : End → List ImageState → ImageAnswer → NamedCoreState → ℕ → Option (NamedAct (List ℕ)) → Option Account → Option Account
 core_account_behind end images answer on steps None account = account
 core_account_behind end images answer on steps (Some wanted) account = core_account_after end images answer on steps wanted account
 
--- the account of the link of the core at a place behind a command; a core is made without a link
+-- the account of the link of the core at a place after a command; a core is made without a link
 abbrev pub next_core_account : End → ℕ → ImageAnswer → RunState → Line (List RecipeLine) (List ℕ) → Option NamedCoreState → Option Account → Option Account
 next_core_account end place answer before done (Some on) account =
     core_account_behind end before.objects.images answer on before.steps (core_act_at before place done) account

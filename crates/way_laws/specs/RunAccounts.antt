@@ -33,7 +33,7 @@ abbrev pub reopened_account : BenchState → Option ReopenFault → Account → 
 reopened_account bench None account = new_account (link_in (after_reopen bench))
 reopened_account bench (Some why) account = account
 
--- the account of a link behind what is done under its name
+-- the account of a link after what is done under its name
 abbrev pub account_after : End → BenchState → ℕ → NamedAct (List ℕ) → Account → Account
 account_after end bench steps (under.Make made) account = account
 account_after end bench steps (under.Link asked) account = with_deeds end (link_in bench).era.is_live account (act_deeds nobody_sees 0 bench tt steps asked)
@@ -59,12 +59,12 @@ link_act_at run place (line.Quiet set) = None
 link_act_at run place (line.Dump name image) = None
 link_act_at run place (line.On name wanted) = if is_place (place_of run.objects.links name) place then Some wanted else None
 
--- the account of a link behind what is done on it, if anything is
+-- the account of a link after what is done on it, if anything is
 abbrev pub account_behind : End → BenchState → ℕ → Option (NamedAct (List ℕ)) → Account → Account
 account_behind end bench steps None account = account
 account_behind end bench steps (Some wanted) account = account_after end bench steps wanted account
 
--- the account of the link at a place behind a command: it goes on where the link was there, and begins where the command made the link
+-- the account of the link at a place after a command: it goes on where the link was there, and begins where the command made the link
 abbrev pub next_account : End → ℕ → RunState → Line (List RecipeLine) (List ℕ) → RunState → Option NamedLink → Option Account → Option Account
 next_account end place before done after (Some on) account =
     option_map (account_behind end on.bench before.steps (link_act_at before place done)) account

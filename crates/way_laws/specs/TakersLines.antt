@@ -11,11 +11,11 @@ use Rattle.way_laws.specs.WordedTakes.{taker_of}
 abbrev pub is_line_of : ℕ → Event → Bool
 is_line_of caller line = unwrap_or (option_map (λ taker. taker == caller) (taker_of line)) false
 
--- the lines of a caller's takes that stand among these events, in their order
+-- the lines of a caller's takes that are among these events, in their order
 abbrev pub lines_of : ℕ → List Event → List Event
 lines_of caller events = filter (is_line_of caller) events
 
--- the lines of these handings, one behind the other, as this caller's takes
+-- the lines of these handings, one after the other, as this caller's takes
 abbrev pub lines_for : List ℕ → ℕ → List Handing → List Event
 lines_for name caller handings = map (λ handing. took_event name caller handing.sent.number handing.sent.message handing.verdict) handings
 

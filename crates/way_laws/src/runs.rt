@@ -46,7 +46,7 @@ ghost use Rattle.way_laws.specs.RunAccounts.{account_of, link_act_at, named_take
 ghost use Rattle.way_laws.specs.TakersLines.{drive_lines, lines_of};
 ghost use Rattle.way_laws.specs.WordedTakes.{AreLinesAmong, AreLinesOfTakes, ComesFromOpening, IsWordedTake, TellNoTakes, is_of_calls, is_take_line};
 
-/// After each list of commands, and so after each front of a script, a link of the run comes by the run's own moves since it was made or last
+/// After each list of commands, and so after each prefix of a script, a link of the run comes by the run's own moves since it was made or last
 /// reopened; and what the run told of takes on it since then, at an end of it, is what those moves handed over there, in order and each once,
 /// with number, sender, bytes and verdict: all but what a taker in its last step is yet to tell, or one that was reclaimed. Once the link is
 /// closed nothing more is handed over, and one take at most is told at each end, of a message that was handed over before.
@@ -113,7 +113,7 @@ pub fn takes_are_worded()
 /// handing that a step of the core's actors tells, and these are what the drive adds to the account of the core's link. No other command tells such a
 /// line: neither one that is no act on a link and no drive, nor one under a name that no link and no core has. So each line of a take that any command
 /// of a run tells is that of a handing which the command tells at an end of a link of the run, or of the link of a core. And so each line of
-/// a take in a whole run is that of a handing which the command that is next behind others tells so.
+/// a take in a whole run is that of a handing which the command that is next after others tells so.
 pub fn lines_have_takes()
     ensures link { (told : StoreAnswers) (commands : List Command) (answer : ImageAnswer) (asked : Command) (place : ℕ) (wanted : NamedAct (List ℕ)) (on : NamedLink)
         → AreRunnable commands → IsRunnable asked
