@@ -5,7 +5,7 @@ import time
 
 TOP = os.path.dirname(os.path.dirname(os.path.abspath(__file__)))
 # The crates of the programs.
-PROGRAMS = ("rproc", "rproc_chart")
+PROGRAMS = ("rproc", "rproc_chart", "rproc_lint")
 # What a check of a crate reads of it.
 PARTS = ("src", "specs", "proofs")
 
