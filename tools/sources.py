@@ -5,7 +5,7 @@ import time
 
 TOP = os.path.dirname(os.path.dirname(os.path.abspath(__file__)))
 # The programs, by their crates, and the name by which each is run.
-PROGRAMS = {"rproc": "rproc", "rproc_chart": "rproc-chart", "rproc_dump": "rproc-dump"}
+PROGRAMS = {"rproc": "rproc", "rproc_chart": "rproc-chart", "rproc_dump": "rproc-dump", "rproc_lint": "rproc-lint"}
 # What a check of a crate reads of it.
 PARTS = ("src", "specs", "proofs")
 
