@@ -8,14 +8,14 @@ use Rattle.journal.specs.declared.events.Event.{Event}
 use Rattle.chart.specs.declared.joins.Arrow.{Arrow}
 use Rattle.chart.specs.declared.joins.Told.{Told}
 use Rattle.chart.specs.declared.keys.ArrowEnd.{ArrowEnd}
-use Rattle.event_marks.specs.declared.marks.Deed.{Deed}
-use Rattle.event_marks.specs.declared.marks.Deed.TheVariants as deed
-use Rattle.event_marks.specs.declared.marks.Said.{Said}
+use Rattle.chart.specs.declared.marks.Deed.{Deed}
+use Rattle.chart.specs.declared.marks.Deed.TheVariants as deed
+use Rattle.chart.specs.declared.marks.Said.{Said}
 use Rattle.chart.specs.declared.rows.Row.{Row}
 use Rattle.chart.specs.Charts.{arrow_in, first_of, told_by}
 use Rattle.chart.specs.Keys.{is_same_arrow_end}
 use Rattle.chart.specs.Laws.{IsFirst, drawn_at, end_drawn, end_told, is_end, told_in}
-use Rattle.event_marks.specs.Marks.{said_by}
+use Rattle.chart.specs.Marks.{said_by}
 use Rattle.chart.specs.Rows.{lifeline_in, mark_in, row_in, rows_from}
 
 drawn_is : (said : Said) (what : Deed) (caller : Option ℕ) (past : List Said)

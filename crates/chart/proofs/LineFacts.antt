@@ -6,8 +6,7 @@ use Rattle.journal.specs.Lines.{line}
 use Rattle.journal.specs.Reading.{IsWritten}
 use Rattle.journal.specs.declared.events.Event.{Event}
 use Rattle.journal_check.specs.Lines.{lines_of}
-use Rattle.chart.specs.declared.limits.TheConstants.{LINES_MOST}
-use Rattle.chart.specs.Readings.{AreLines, AreTooMany, IsFirstOther}
+use Rattle.chart.specs.Readings.{AreLines, IsFirstOther}
 
 -- what stands before the rest of a text are the lines of events
 pub record AreRead (bytes rest : List ℕ) (events : List Event) : Type 0 where
@@ -50,17 +49,16 @@ other_found bytes rest here more events read cut none =
       none = none;
     }
 
-pub too_long : (bytes rest here more : List ℕ) (events : List Event) (count : ℕ) → AreRead bytes rest events → lines_of rest ≡ here ∷ lines_of more
-    → count ≡ length events → LINES_MOST ≤ count → length events ≤ LINES_MOST → AreTooMany (lines_of bytes)
-too_long bytes rest here more events count read cut is many few =
-    record {
-      events = events;
-      written = read.written;
-      count = omega (arith, is, many, few);
-      next = here;
-      more = lines_of more;
-      split = read.lines ∙ ap (λ lines. map line events ++ lines) cut;
-    }
+len_map : (events : List Event) (lines : List (List ℕ)) → length (map line events ++ lines) ≡ length events + length lines
+len_map [] lines = omega arith
+len_map (e ∷ events) lines = omega (arith, len_map events lines)
+
+pub too_long : (bytes rest here more : List ℕ) (events : List Event) (most : ℕ) → AreRead bytes rest events → lines_of rest ≡ here ∷ lines_of more
+    → most ≤ length events → most < length (lines_of bytes)
+too_long bytes rest here more events most read cut many =
+    let all = ap length read.lines in
+    let left = ap length cut in
+    omega (arith, all, left, len_map events (lines_of rest), many)
 
 pub few_more : (events : List Event) (event : Event) (count most : ℕ) → count ≡ length events → count < most → length (events ++ event ∷ []) ≤ most
 few_more events event count most is below = omega (arith, length-append events (event ∷ []))

@@ -5,9 +5,9 @@ use Rattle.journal.specs.declared.events.Event.{Event}
 use Rattle.chart.specs.declared.joins.Told.{Told}
 use Rattle.chart.specs.declared.keys.ArrowEnd.{ArrowEnd}
 use Rattle.chart.specs.declared.keys.Lifeline.{Lifeline}
-use Rattle.event_marks.specs.declared.marks.Deed.{Deed}
-use Rattle.event_marks.specs.declared.marks.Deed.TheVariants as deed
-use Rattle.event_marks.specs.declared.marks.Teller.{Teller}
+use Rattle.chart.specs.declared.marks.Deed.{Deed}
+use Rattle.chart.specs.declared.marks.Deed.TheVariants as deed
+use Rattle.chart.specs.declared.marks.Teller.{Teller}
 use Rattle.chart.specs.declared.rows.Mark.{Mark}
 use Rattle.chart.specs.declared.rows.Mark.TheVariants as mark
 use Rattle.chart.specs.declared.rows.Stand.{Stand}
@@ -15,7 +15,7 @@ use Rattle.chart.specs.declared.rows.Stand.TheVariants as stand
 use Rattle.chart.specs.declared.rows.Row.{Row}
 use Rattle.chart.specs.Keys.{is_same_arrow_end}
 use Rattle.chart.specs.Charts.{arrow_in}
-use Rattle.event_marks.specs.Marks.{said_by}
+use Rattle.chart.specs.Marks.{said_by}
 
 -- an end of the arrow of a message, without the incarnation
 pub record End : Type 0 where

@@ -1,4 +1,5 @@
 pub mod Keys
+pub mod Marks
 pub mod Readings
 pub mod Rows
 pub mod Orders

@@ -1,6 +1,5 @@
 -- The events whose lines a text is, and the first line that is none's (own).
 use Rattle.std.specs.Prelude.{◌≡◌, ℕ, ◌+◌, List, ◌∷◌, ◌++◌, map, length, All}
-use Rattle.chart.specs.declared.limits.TheConstants.{LINES_MOST}
 use Rattle.journal.specs.Lines.{line}
 use Rattle.journal.specs.Reading.{IsWritten}
 use Rattle.journal.specs.declared.events.Event.{Event}
@@ -19,12 +18,3 @@ pub record IsFirstOther (lines : List (List ℕ)) (number : ℕ) : Type 0 where
   pub split : lines ≡ map line events ++ other ∷ more
   pub place : number ≡ length events + 1
   pub none : (event : Event) → IsWritten event → line event ≡ other → ⊥
-
--- the first `LINES_MOST` lines are events', and there are more
-pub record AreTooMany (lines : List (List ℕ)) : Type 0 where
-  pub events : List Event
-  pub written : All IsWritten events
-  pub count : length events ≡ LINES_MOST
-  pub next : List ℕ
-  pub more : List (List ℕ)
-  pub split : lines ≡ map line events ++ next ∷ more

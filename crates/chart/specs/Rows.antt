@@ -12,18 +12,17 @@ use Rattle.chart.specs.declared.keys.Side.TheVariants as side
 use Rattle.chart.specs.declared.keys.Lifeline.{Lifeline}
 use Rattle.chart.specs.declared.keys.Caller.{Caller}
 use Rattle.chart.specs.declared.keys.ArrowEnd.{ArrowEnd}
-use Rattle.event_marks.specs.declared.marks.Said.{Said}
-use Rattle.event_marks.specs.declared.marks.Teller.{Teller}
-use Rattle.event_marks.specs.declared.marks.Deed.{Deed}
-use Rattle.event_marks.specs.declared.marks.Deed.TheVariants as deed
+use Rattle.chart.specs.declared.marks.Said.{Said}
+use Rattle.chart.specs.declared.marks.Teller.{Teller}
+use Rattle.chart.specs.declared.marks.Deed.{Deed}
+use Rattle.chart.specs.declared.marks.Deed.TheVariants as deed
 use Rattle.chart.specs.declared.rows.Mark.{Mark}
 use Rattle.chart.specs.declared.rows.Mark.TheVariants as mark
 use Rattle.chart.specs.declared.rows.Stand.TheVariants as stand
 use Rattle.chart.specs.declared.rows.Row.{Row}
-use Rattle.chart.specs.declared.rows.LineRange.{LineRange}
 use Rattle.chart.specs.declared.rows.Walk.{Walk}
 use Rattle.chart.specs.Keys.{is_same_name, is_same_caller}
-use Rattle.event_marks.specs.Marks.{said_by}
+use Rattle.chart.specs.Marks.{said_by}
 
 -- the incarnation of a link or core is that of the last line by which one began, and 0 before any
 abbrev pub opened_in : Bool → Deed → Option ℕ
@@ -138,10 +137,6 @@ rows_from past (event ∷ more) = row_at (cons_option (said_by event) past) even
 
 abbrev pub rows_of : List Event → List Row
 rows_of events = rows_from [] events
-
--- the rows of these lines of a transcript
-abbrev pub rows_in : LineRange → List Row → List Row
-rows_in lines rows = take lines.count (drop lines.skipped rows)
 
 -- the tables keep what was last said
 pub record IsWalk (past : List Said) (walk : Walk) : Type 0 where

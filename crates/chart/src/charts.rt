@@ -1,5 +1,5 @@
 ghost use Rattle.std.specs.Prelude.{◌≡◌, ◌≤◌, length, Err, IfOk};
-ghost use Rattle.chart.specs.Rows.{rows_in, rows_of};
+ghost use Rattle.chart.specs.Rows.{rows_of};
 ghost use Rattle.chart.specs.Orders.{IsTooWide, lifelines_of};
 ghost use Rattle.chart.specs.Charts.{places_of};
 
@@ -7,19 +7,17 @@ use crate::joins::{Place, places_of};
 use crate::keys::Lifeline;
 use crate::limits::{LIFELINES_MOST, LINES_MOST};
 use crate::orders::{from_left, seats_of};
-use crate::rows::{LineRange, Row, rows_of};
+use crate::rows::{Row, rows_of};
 use journal::Event;
 use rp_base::NoMemory;
 use std::alloc::{AllocError, Global};
 
-/// A chart of lines of a run.
+/// A chart of a run.
 #[derive(Drop)]
 pub struct Chart {
-    /// How many lines of the transcript come before the first row.
-    pub skipped: u32,
     /// The lifelines, from left to right.
     pub lifelines: Vec<Lifeline>,
-    /// A row for each of the lines, in order.
+    /// A row for each line of the transcript, in order.
     pub rows: Vec<Row>,
     /// The place of each row.
     pub places: Vec<Place>,
@@ -54,23 +52,22 @@ impl From<AllocError> for ChartFault {
     }
 }
 
-/// The chart of these lines of a run, by the events of all of its lines: a row for each of them, and
-/// each end of an arrow joined with the first other end of the same message among them.
+/// The chart of the events of a run: a row for each, and each end of an arrow joined with the first
+/// other end of the same message.
 ///
 /// # Errors
 ///
 /// [`ChartFault::TooWide`] where it would have more than [`LIFELINES_MOST`] lifelines,
 /// [`ChartFault::NoMemory`] where memory ran out.
-pub fn chart_of(alloc: Global, events: &[Event], lines: LineRange) -> Result<Chart, ChartFault>
+pub fn chart_of(alloc: Global, events: &[Event]) -> Result<Chart, ChartFault>
     requires { length events.now ≤ LINES_MOST }
-    ensures skipped { IfOk result (λ chart. chart.skipped ≡ lines.skipped) }
-    ensures rows { IfOk result (λ chart. chart.rows.items ≡ rows_in lines (rows_of events.now)) }
-    ensures lifelines { IfOk result (λ chart. chart.lifelines.items ≡ lifelines_of (rows_in lines (rows_of events.now))) }
-    ensures places { IfOk result (λ chart. let rows = rows_in lines (rows_of events.now) in chart.places.items ≡ places_of (lifelines_of rows) rows) }
+    ensures rows { IfOk result (λ chart. chart.rows.items ≡ rows_of events.now) }
+    ensures lifelines { IfOk result (λ chart. chart.lifelines.items ≡ lifelines_of (rows_of events.now)) }
+    ensures places { IfOk result (λ chart. chart.places.items ≡ places_of (lifelines_of (rows_of events.now)) (rows_of events.now)) }
     ensures narrow { IfOk result (λ chart. length chart.lifelines.items ≤ LIFELINES_MOST) }
-    ensures wide { result ≡ Err ChartFault.TooWide → IsTooWide (rows_in lines (rows_of events.now)) }
+    ensures wide { result ≡ Err ChartFault.TooWide → IsTooWide (rows_of events.now) }
 {
-    let rows = rows_of(alloc, events, lines)?;
+    let rows = rows_of(alloc, events)?;
     let seats = seats_of(alloc, &rows)?;
     if seats.len() > LIFELINES_MOST {
         return Err(ChartFault::TooWide);
@@ -81,7 +78,6 @@ pub fn chart_of(alloc: Global, events: &[Event], lines: LineRange) -> Result<Cha
     }
     let places = places_of(alloc, &lifelines, &rows)?;
     Ok(Chart {
-        skipped: lines.skipped,
         lifelines: Vec::from_slice(alloc, lifelines.as_slice())?,
         rows,
         places,

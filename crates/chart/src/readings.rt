@@ -1,6 +1,6 @@
 ghost use Rattle.std.specs.Prelude.{◌≡◌, ◌==◌, ℕ, ◌<◌, ◌≤◌, ◌∷◌, length, position, Err, IfOk};
 ghost use Rattle.journal_check.specs.Lines.{lines_of};
-ghost use Rattle.chart.specs.Readings.{AreLines, AreTooMany, IsFirstOther};
+ghost use Rattle.chart.specs.Readings.{AreLines, IsFirstOther};
 ghost use Rattle.chart.specs.declared.limits.TheConstants.{LINES_MOST};
 
 use crate::limits::LINES_MOST;
@@ -32,15 +32,13 @@ impl<T: Drop> From<AllocFailed<T>> for EventsFault {
 ///
 /// # Errors
 ///
-/// [`EventsFault::NotALine`] with the first line that is no event's, if it is one of the first
-/// [`LINES_MOST`], [`EventsFault::TooLong`] where these are events' and there are more,
-/// [`EventsFault::NoMemory`] where memory ran out.
+/// [`EventsFault::NotALine`] with the first line that is no event's, [`EventsFault::TooLong`] where
+/// there are more than [`LINES_MOST`] lines, [`EventsFault::NoMemory`] where memory ran out.
 pub fn read_events(alloc: Global, bytes: &[u8]) -> Result<Vec<Event>, EventsFault>
     ensures lines { IfOk result (λ events. AreLines (lines_of bytes.now) events.items) }
     ensures few { IfOk result (λ events. length events.items ≤ LINES_MOST) }
     ensures first { (number : ℕ) → result ≡ Err (EventsFault.NotALine number) → IsFirstOther (lines_of bytes.now) number }
-    ensures within { (number : ℕ) → result ≡ Err (EventsFault.NotALine number) → number ≤ LINES_MOST }
-    ensures long { result ≡ Err EventsFault.TooLong → AreTooMany (lines_of bytes.now) }
+    ensures long { result ≡ Err EventsFault.TooLong → LINES_MOST < length (lines_of bytes.now) }
 {
     let mut events = Vec::new(alloc);
     let mut rest = bytes;

@@ -1,12 +1,12 @@
 ghost use Rattle.std.specs.Prelude.{◌≡◌, ◌==◌, List, ◌∷◌, position, IfOk, OnOk};
 ghost use Rattle.std.specs.List.{cons_option};
 ghost use Rattle.journal.specs.Lines.{line};
-ghost use Rattle.event_marks.specs.declared.marks.Said.{Said};
-ghost use Rattle.event_marks.specs.Marks.{said_by};
-ghost use Rattle.chart.specs.Rows.{IsWalk, rows_in, arrow_end, behind_space, label_of, shown_of, lane_of, side_of, end_of, incarnation, lifeline_of, mark_of, row_at, rows_of};
+ghost use Rattle.chart.specs.declared.marks.Said.{Said};
+ghost use Rattle.chart.specs.Marks.{said_by};
+ghost use Rattle.chart.specs.Rows.{IsWalk, arrow_end, behind_space, label_of, shown_of, lane_of, side_of, end_of, incarnation, lifeline_of, mark_of, row_at, rows_of};
 
 use crate::keys::{ArrowEnd, Caller, Lifeline, Message, Side};
-use event_marks::{Deed, Said, Teller, said_by};
+use crate::marks::{Deed, Said, Teller, said_by};
 use indexmap::IndexMap;
 use journal::{Event, line};
 use rp_base::{Data, End, Name, NoMemory};
@@ -43,15 +43,6 @@ pub struct Row {
     pub label: Data,
 }
 
-/// So many lines of a transcript after so many others.
-#[derive(Clone, Copy)]
-pub struct LineRange {
-    /// How many lines come before the first of them.
-    pub skipped: u32,
-    /// How many they are at most.
-    pub count: u32,
-}
-
 /// What the lines so far say of callers and incarnations.
 #[derive(Drop)]
 struct Walk {
@@ -77,16 +68,6 @@ impl Walk {
             _ => {}
         }
         Ok(())
-    }
-
-    /// What an event says is kept.
-    fn pass(&mut self, event: &Event) -> Result<(), NoMemory>
-        ensures { (past : List Said) → IsWalk past self.old → OnOk result (IsWalk (cons_option (said_by event.now) past) self.new) }
-    {
-        match said_by(event) {
-            Some(said) => self.note(&said),
-            None => Ok(()),
-        }
     }
 
     /// The row of an event, whose line is kept.
@@ -181,30 +162,21 @@ impl Walk {
     }
 }
 
-/// A row for each event of these lines, in order.
+/// A row for each event, in order.
 ///
 /// # Errors
 ///
 /// [`NoMemory`] where memory ran out.
-pub(crate) fn rows_of(
-    alloc: Global,
-    events: &[Event],
-    lines: LineRange,
-) -> Result<Vec<Row>, NoMemory>
-    ensures { IfOk result (λ rows. rows.items ≡ rows_in lines (rows_of events.now)) }
+pub(crate) fn rows_of(alloc: Global, events: &[Event]) -> Result<Vec<Row>, NoMemory>
+    ensures { IfOk result (λ rows. rows.items ≡ rows_of events.now) }
 {
     let mut walk = Walk {
         ends: IndexMap::new(alloc),
         lives: IndexMap::new(alloc),
     };
     let mut rows = Vec::new(alloc);
-    let (passed, rest) = events.split_at((lines.skipped as usize).min(events.len()));
-    for event in passed {
-        walk.pass(event)?;
-    }
-    let (drawn, _) = rest.split_at((lines.count as usize).min(rest.len()));
-    for here in drawn {
-        rows.push(walk.row(alloc, here)?)?;
+    for event in events {
+        rows.push(walk.row(alloc, event)?)?;
     }
     Ok(rows)
 }

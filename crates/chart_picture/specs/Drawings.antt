@@ -55,16 +55,16 @@ stand_shapes (stand.At lifeline mark) place y label =
     mark_shapes lifeline.side mark place y
     ++ shape.Text (label_style mark lifeline.side) (label_x mark lifeline.side (x_of place.column)) (y + 4) (clipped label) ∷ []
 
--- the number of its line in the transcript, from 1, is before each row; so many lines come before the first
-abbrev pub row_shapes : ℕ → ℕ → Row → Place → List Shape
-row_shapes skipped index row place =
-    shape.Text style.Count 40 (y_of index + 4) (decimal (skipped + index + 1)) ∷ stand_shapes row.stand place (y_of index) row.label
+-- the number of its line, from 1, is before each row
+abbrev pub row_shapes : ℕ → Row → Place → List Shape
+row_shapes index row place =
+    shape.Text style.Count 40 (y_of index + 4) (decimal (index + 1)) ∷ stand_shapes row.stand place (y_of index) row.label
 
 -- rows from above, the first with this index
-abbrev pub rows_shapes : ℕ → ℕ → List Row → List Place → List Shape
-rows_shapes skipped index (row ∷ rows) (place ∷ places) = row_shapes skipped index row place ++ rows_shapes skipped (index + 1) rows places
-rows_shapes skipped index rows places = []
+abbrev pub rows_shapes : ℕ → List Row → List Place → List Shape
+rows_shapes index (row ∷ rows) (place ∷ places) = row_shapes index row place ++ rows_shapes (index + 1) rows places
+rows_shapes index rows places = []
 
 -- the shapes of a chart: its lifelines, and over them its rows
-abbrev pub shapes_of : ℕ → List Lifeline → List Row → List Place → List Shape
-shapes_of skipped lifelines rows places = lifelines_shapes (height_of (length rows)) 0 lifelines ++ rows_shapes skipped 0 rows places
+abbrev pub shapes_of : List Lifeline → List Row → List Place → List Shape
+shapes_of lifelines rows places = lifelines_shapes (height_of (length rows)) 0 lifelines ++ rows_shapes 0 rows places

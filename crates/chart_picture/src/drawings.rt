@@ -20,19 +20,13 @@ pub fn draw(alloc: Global, chart: &Chart) -> Result<Picture, NoMemory>
     requires narrow { length chart.now.lifelines.items ≤ LIFELINES_MOST }
     ensures width { IfOk result (λ picture. picture.width ≡ width_of (length chart.now.lifelines.items)) }
     ensures height { IfOk result (λ picture. picture.height ≡ height_of (length chart.now.rows.items)) }
-    ensures shapes { IfOk result (λ picture. picture.shapes.items ≡ shapes_of chart.now.skipped chart.now.lifelines.items chart.now.rows.items chart.now.places.items) }
+    ensures shapes { IfOk result (λ picture. picture.shapes.items ≡ shapes_of chart.now.lifelines.items chart.now.rows.items chart.now.places.items) }
 {
     let width = FIRST + STEP * (chart.lifelines.len() as u64) + RIGHT;
     let height = TOP + ROW * (chart.rows.len() as u64);
     let mut shapes = Vec::new(alloc);
     push_lifelines(alloc, &mut shapes, height, &chart.lifelines)?;
-    push_rows(
-        alloc,
-        &mut shapes,
-        chart.skipped,
-        &chart.rows,
-        &chart.places,
-    )?;
+    push_rows(alloc, &mut shapes, &chart.rows, &chart.places)?;
     Ok(Picture {
         width,
         height,
@@ -40,16 +34,15 @@ pub fn draw(alloc: Global, chart: &Chart) -> Result<Picture, NoMemory>
     })
 }
 
-/// Appends rows from above, which so many lines of the transcript come before.
+/// Appends rows from above.
 fn push_rows(
     alloc: Global,
     shapes: &mut Vec<Shape>,
-    skipped: u32,
     rows: &[Row],
     places: &[Place],
 ) -> Result<(), NoMemory>
     requires { length rows.now ≤ LINES_MOST }
-    ensures { OnOk result (shapes.new.items ≡ shapes.old.items ++ rows_shapes skipped 0 rows.now places.now) }
+    ensures { OnOk result (shapes.new.items ≡ shapes.old.items ++ rows_shapes 0 rows.now places.now) }
 {
     let mut rows = rows;
     let mut places = places;
@@ -58,7 +51,7 @@ fn push_rows(
         let [place, more_places @ ..] = places else {
             break;
         };
-        push_row(alloc, shapes, skipped, index, row, *place)?;
+        push_row(alloc, shapes, index, row, *place)?;
         index += 1;
         rows = more_rows;
         places = more_places;
@@ -70,15 +63,14 @@ fn push_rows(
 fn push_row(
     alloc: Global,
     shapes: &mut Vec<Shape>,
-    skipped: u32,
     index: u32,
     row: &Row,
     place: Place,
 ) -> Result<(), NoMemory>
-    ensures { OnOk result (shapes.new.items ≡ shapes.old.items ++ row_shapes skipped index row.now place) }
+    ensures { OnOk result (shapes.new.items ≡ shapes.old.items ++ row_shapes index row.now place) }
 {
     let y = y_of(index);
-    let count = number_text(alloc, "", u64::from(skipped) + u64::from(index) + 1)?;
+    let count = number_text(alloc, "", u64::from(index) + 1)?;
     shapes.push(Shape::Text {
         style: Style::Count,
         x: 40,

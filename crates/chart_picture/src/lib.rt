@@ -7,4 +7,3 @@ mod marks;
 mod measures;
 
 pub use drawings::draw;
-pub use measures::LABEL_MOST;

@@ -11,8 +11,8 @@ pub(crate) const RIGHT: u64 = 140;
 pub(crate) const TOP: u64 = 84;
 /// From a row to the next.
 pub(crate) const ROW: u64 = 24;
-/// The most bytes of a label that are drawn.
-pub const LABEL_MOST: usize = 40;
+/// How many bytes of a label are drawn.
+pub(crate) const LABEL_MOST: usize = 40;
 
 /// Where a lifeline is.
 pub(crate) fn x_of(column: u32) -> u64

@@ -27,7 +27,6 @@ ghost use Rattle.link_bench.specs.declared.acts.ActAnswer.{ActAnswer};
 ghost use Rattle.link_commands.specs.Effects.{answer_events};
 ghost use Rattle.storm_run.specs.declared.plans.TheConstants.{COUNT_MOST, END_CALLERS_MOST};
 ghost use Rattle.chart.specs.declared.limits.TheConstants.{LIFELINES_MOST, LINES_MOST};
-ghost use Rattle.chart_picture.specs.declared.measures.TheConstants.{LABEL_MOST};
 ghost use Rattle.c_forms.specs.declared.TheConstants.{DONE, NOTHING, NO_MEMORY, WRONG_FIX, WRONG_LENGTH};
 
 /// The limits of links and messages: bytes of a message and of its payload, entries of a ring, buffers of a lane, messages of a book,
@@ -99,12 +98,11 @@ pub fn act_lines()
     ensures { (name : List ℕ) (link : LinkState EndState) (answer : ActAnswer) → length (answer_events name link answer) ≤ 2 }
 {}
 
-/// The limits of a chart: lines of a transcript, lifelines, and bytes of a label; and the statuses of the library for C that are no fault's number, and what
+/// The limits of a chart: lines of a transcript and lifelines; and the statuses of the library for C that are no fault's number, and what
 /// stands for no number there.
 pub fn outside_limits()
     ensures lines { LINES_MOST ≡ 100000 }
     ensures lifelines { LIFELINES_MOST ≡ 1032 }
-    ensures label { LABEL_MOST ≡ 40 }
     ensures done { DONE ≡ 0 }
     ensures no_memory { NO_MEMORY ≡ 100 }
     ensures wrong_length { WRONG_LENGTH ≡ 101 }

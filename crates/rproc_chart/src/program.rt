@@ -1,17 +1,14 @@
-ghost use Rattle.std.specs.Prelude.{◌≡◌, ◌≢◌, ◌≤◌, ◌<◌, ◌+◌, ℕ, List, Some, None, length, map, IfOk};
+ghost use Rattle.std.specs.Prelude.{◌≡◌, ◌≢◌, ◌≤◌, ◌+◌, ℕ, List, length, IfOk};
 ghost use Rattle.std.specs.declared.option.Option.{Option};
 ghost use Rattle.std.specs.Io.KnownBytes.{Appends};
 ghost use Rattle.rp_io.specs.Causes.{Rose};
 ghost use Rattle.rp_io.specs.Contents.{IsFrontOf, LosesFront};
 ghost use Rattle.chart.specs.declared.limits.TheConstants.{LINES_MOST};
-ghost use Rattle.chart.specs.declared.rows.LineRange.{LineRange};
-ghost use Rattle.rproc_chart.specs.Words.{asked};
 ghost use Rattle.rproc_chart.specs.declared.statuses.Status.TheVariants as ended;
 ghost use Rattle.rproc_chart.specs.Outputs.{IsChartOutput, IsFinal, IsOutput, IsTold, WritesOutput, refusal_line};
 
 use crate::statuses::Status;
-use crate::words::read_words;
-use chart::{ChartFault, EventsFault, LineRange, chart_of, read_events};
+use chart::{ChartFault, EventsFault, chart_of, read_events};
 use chart_picture::draw;
 use journal::Event;
 use journal_check::TRANSCRIPT_MOST;
@@ -27,45 +24,19 @@ pub(crate) struct Output {
     pub(crate) status: Status,
 }
 
-/// Reads a transcript and writes the chart of the lines that the words ask for, or why there is none.
-/// Where they ask for nothing that the program does, nothing is read or written.
+/// Reads a transcript and writes its chart, or why there is none.
 pub(crate) fn run_chart<S: Source, K: Sink>(
     alloc: Global,
-    words: &[&str],
     transcript: &mut S,
     out: &mut K,
 ) -> Status
-    ensures usage { asked (map (λ word. word.now) words.now) ≡ None
-        → (result ≡ ended.Usage) × (transcript.new ≡ transcript.old) × (out.new ≡ out.old) }
-    ensures written { (lines : LineRange) → asked (map (λ word. word.now) words.now) ≡ Some lines
-        → WritesOutput lines result (S.left transcript.old) (K.written out.old) (K.written out.new) }
+    ensures written { WritesOutput result (S.left transcript.old) (K.written out.old) (K.written out.new) }
     ensures source { result ≡ ended.ReadFault → Rose (S.faults transcript.old) (S.faults transcript.new) }
     ensures sink { result ≡ ended.WriteFault → Rose (K.faults out.old) (K.faults out.new) }
-    ensures memory { result ≡ ended.NoMemory → (S.faults transcript.new ≡ S.faults transcript.old) × (out.new ≡ out.old) }
-    ensures taken { (lines : LineRange) → asked (map (λ word. word.now) words.now) ≡ Some lines
-        → LosesFront (S.left transcript.old) (S.left transcript.new) (TRANSCRIPT_MOST + 1) }
-{
-    match read_words(words) {
-        Some(lines) => draw_lines(alloc, lines, transcript, out),
-        None => Status::Usage,
-    }
-}
-
-/// Reads a transcript and writes the chart of these lines, or why there is none.
-fn draw_lines<S: Source, K: Sink>(
-    alloc: Global,
-    lines: LineRange,
-    transcript: &mut S,
-    out: &mut K,
-) -> Status
-    ensures written { WritesOutput lines result (S.left transcript.old) (K.written out.old) (K.written out.new) }
-    ensures source { result ≡ ended.ReadFault → Rose (S.faults transcript.old) (S.faults transcript.new) }
-    ensures sink { result ≡ ended.WriteFault → Rose (K.faults out.old) (K.faults out.new) }
-    ensures memory { result ≡ ended.NoMemory → (S.faults transcript.new ≡ S.faults transcript.old) × (out.new ≡ out.old) }
     ensures taken { LosesFront (S.left transcript.old) (S.left transcript.new) (TRANSCRIPT_MOST + 1) }
 {
     match read_front(alloc, transcript, TRANSCRIPT_MOST) {
-        Ok(bytes) => write_chart(alloc, lines, &bytes, out),
+        Ok(bytes) => write_chart(alloc, &bytes, out),
         Err(ReadFault::Failed) => match write_whole(out, b"* read fault\n") {
             Ok(()) => Status::ReadFault,
             Err(_) => Status::WriteFault,
@@ -74,15 +45,14 @@ fn draw_lines<S: Source, K: Sink>(
     }
 }
 
-/// Writes the chart of these lines of a transcript of these bytes, or why there is none.
-fn write_chart<K: Sink>(alloc: Global, lines: LineRange, bytes: &[u8], out: &mut K) -> Status
+/// Writes the chart of a transcript of these bytes, or why there is none.
+fn write_chart<K: Sink>(alloc: Global, bytes: &[u8], out: &mut K) -> Status
     ensures written { (left : Option (List ℕ)) → IsFrontOf left (TRANSCRIPT_MOST + 1) bytes.now
-        → WritesOutput lines result left (K.written out.old) (K.written out.new) }
+        → WritesOutput result left (K.written out.old) (K.written out.new) }
     ensures source { result ≢ ended.ReadFault }
     ensures sink { result ≡ ended.WriteFault → Rose (K.faults out.old) (K.faults out.new) }
-    ensures memory { result ≡ ended.NoMemory → out.new ≡ out.old }
 {
-    match output_of(alloc, lines, bytes) {
+    match output_of(alloc, bytes) {
         Ok(output) => write_output(&output, out),
         Err(NoMemory) => Status::NoMemory,
     }
@@ -93,7 +63,6 @@ fn write_output<K: Sink>(output: &Output, out: &mut K) -> Status
     requires { IsFinal output.now.status }
     ensures whole { result ≢ ended.WriteFault → (result ≡ output.now.status) × Appends (K.written out.old) (K.written out.new) output.now.text.items }
     ensures source { result ≢ ended.ReadFault }
-    ensures memory { result ≢ ended.NoMemory }
     ensures sink { result ≡ ended.WriteFault → Rose (K.faults out.old) (K.faults out.new) }
 {
     match write_whole(out, &output.text) {
@@ -102,42 +71,27 @@ fn write_output<K: Sink>(output: &Output, out: &mut K) -> Status
     }
 }
 
-/// What is to be written of a transcript of these bytes, of which these lines are asked for.
-fn output_of(alloc: Global, lines: LineRange, bytes: &[u8]) -> Result<Output, NoMemory>
-    ensures output { IfOk result (λ output. IsOutput lines bytes.now output.text.items output.status) }
+/// What is to be written of a transcript of these bytes.
+fn output_of(alloc: Global, bytes: &[u8]) -> Result<Output, NoMemory>
+    ensures output { IfOk result (λ output. IsOutput bytes.now output.text.items output.status) }
 {
     if bytes.len() > TRANSCRIPT_MOST {
         return refusal(alloc, "* refused 0 size\n");
     }
     match read_events(alloc, bytes) {
-        Ok(events) => chart_output(alloc, lines, &events),
+        Ok(events) => chart_output(alloc, &events),
         Err(EventsFault::NotALine(line)) => refused_line(alloc, line),
         Err(EventsFault::TooLong) => refusal(alloc, "* refused 0 lines\n"),
         Err(EventsFault::NoMemory) => Err(NoMemory),
     }
 }
 
-/// What is to be written of the events of a run, of whose lines these are asked for.
-fn chart_output(alloc: Global, lines: LineRange, events: &[Event]) -> Result<Output, NoMemory>
+/// What is to be written of the events of a run.
+fn chart_output(alloc: Global, events: &[Event]) -> Result<Output, NoMemory>
     requires { length events.now ≤ LINES_MOST }
-    ensures { IfOk result (λ output. IsChartOutput lines events.now output.text.items output.status) }
+    ensures { IfOk result (λ output. IsChartOutput events.now output.text.items output.status) }
 {
-    if events.len() <= lines.skipped as usize {
-        return Ok(Output {
-            text: Vec::new(alloc),
-            status: Status::Nothing,
-        });
-    }
-    drawn_output(alloc, lines, events)
-}
-
-/// The chart of these lines of a run, or the refusal of one that is too wide.
-fn drawn_output(alloc: Global, lines: LineRange, events: &[Event]) -> Result<Output, NoMemory>
-    requires few { length events.now ≤ LINES_MOST }
-    requires some { lines.skipped < length events.now }
-    ensures { IfOk result (λ output. IsChartOutput lines events.now output.text.items output.status) }
-{
-    match chart_of(alloc, events, lines) {
+    match chart_of(alloc, events) {
         Ok(chart) => {
             let picture = draw(alloc, &chart)?;
             Ok(Output {

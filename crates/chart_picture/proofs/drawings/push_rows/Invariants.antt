@@ -8,7 +8,7 @@ abbrev pub invariant-loop-rows : goal.invariant-loop-rows
 invariant-loop-rows l =
     record {
       few : l.index + length l.rows ≤ LINES_MOST;
-      shapes : l.shapes.items ++ rows_shapes l.fn.skipped l.index l.rows l.places ≡ l.fn.shapes.items ++ rows_shapes l.fn.skipped 0 l.fn.rows l.fn.places;
+      shapes : l.shapes.items ++ rows_shapes l.index l.rows l.places ≡ l.fn.shapes.items ++ rows_shapes 0 l.fn.rows l.fn.places;
     }
 
 abbrev pub decreases-loop-rows : goal.decreases-loop-rows

@@ -1,19 +1,19 @@
 ghost use Rattle.std.specs.Prelude.{◌≡◌};
-ghost use Rattle.event_marks.specs.Marks.{teller_of, deed_of, said_by};
+ghost use Rattle.chart.specs.Marks.{teller_of, deed_of, said_by};
 
 use journal::Event;
 use rp_base::{End, Name};
 
 /// Which link or core a line is about, and which of its callers, if one.
 #[derive(Clone, Copy)]
-pub struct Teller {
-    pub name: Name,
-    pub caller: Option<u64>,
+pub(crate) struct Teller {
+    pub(crate) name: Name,
+    pub(crate) caller: Option<u64>,
 }
 
 /// What a line says that a chart shows by more than its text.
 #[derive(Clone, Copy)]
-pub enum Deed {
+pub(crate) enum Deed {
     /// An incarnation begins.
     Opens(u64),
     /// An incarnation ends.
@@ -32,13 +32,13 @@ pub enum Deed {
 
 /// A line of a link or a core.
 #[derive(Clone, Copy)]
-pub struct Said {
-    pub teller: Teller,
-    pub deed: Deed,
+pub(crate) struct Said {
+    pub(crate) teller: Teller,
+    pub(crate) deed: Deed,
 }
 
 /// What an event says of a link or a core, if it is about one.
-pub fn said_by(event: &Event) -> Option<Said>
+pub(crate) fn said_by(event: &Event) -> Option<Said>
     ensures { result ≡ said_by event.now }
 {
     let teller = teller_of(event)?;

@@ -4,10 +4,10 @@ use Rattle.word_kinds.specs.Texts.{Word, Name, Number}
 use Rattle.journal.specs.Lines.{words_of}
 use Rattle.journal.specs.declared.events.Event.{Event}
 use Rattle.journal.specs.declared.events.Event.TheVariants as event
-use Rattle.event_marks.specs.declared.marks.Teller.{Teller}
-use Rattle.event_marks.specs.declared.marks.Said.{Said}
-use Rattle.event_marks.specs.declared.marks.Deed.{Deed}
-use Rattle.event_marks.specs.declared.marks.Deed.TheVariants as deed
+use Rattle.chart.specs.declared.marks.Teller.{Teller}
+use Rattle.chart.specs.declared.marks.Said.{Said}
+use Rattle.chart.specs.declared.marks.Deed.{Deed}
+use Rattle.chart.specs.declared.marks.Deed.TheVariants as deed
 
 -- a line begins with the name of its link or core; where a number follows, that is its caller's
 abbrev pub teller_in : List Word → Option Teller
